@@ -1,0 +1,70 @@
+ghost use Rattle.std.specs.Prelude.{◌≡◌, IfOk};
+
+use crate::ranges::Ranges;
+use std::alloc::{AllocError, Global};
+use std::marker::Model;
+
+/// Sets of numbers, as one for each variable. Contracts see the list of their lists of ranges.
+#[derive(Debug, Drop)]
+pub struct Sets {
+    sets: Vec<Ranges>,
+}
+
+impl Model for Sets {
+    ghost use Rattle.std.specs.Prelude.{List};
+    ghost use Rattle.ms_num.specs.Span.{Span};
+
+    ghost Value = { List (List Span) };
+
+    ghost view = { λ s. s.sets.items };
+}
+
+impl Sets {
+    /// Takes the vector as it is, and no memory.
+    pub fn from_vec(sets: Vec<Ranges>) -> Sets
+        ensures { result ≡ sets.items }
+    {
+        Sets { sets }
+    }
+
+    pub fn into_vec(self) -> Vec<Ranges>
+        ensures { result.items ≡ self }
+    {
+        self.sets
+    }
+
+    pub fn as_slice(&self) -> &[Ranges]
+        ensures { result.now ≡ self.now }
+    {
+        self.sets.as_slice()
+    }
+
+    pub fn copy(&self, alloc: Global) -> Result<Sets, AllocError>
+        ensures { IfOk result (λ copied. copied ≡ self.now) }
+    {
+        let mut sets = Vec::new(alloc);
+        for set in &self.sets {
+            sets.push(set.copy(alloc)?)?;
+        }
+        Ok(Sets { sets })
+    }
+}
+
+#[cfg(test)]
+mod tests {
+    use super::*;
+    use crate::iv::Iv;
+    use std::test::Fail;
+
+    #[test]
+    fn copies(rt: HostRuntime) -> Result<(), Fail> {
+        let alloc = rt.alloc();
+        let set = Ranges::from_iv(alloc, Iv::new(4, 5))?;
+        let sets = Sets::from_vec(vec![in alloc; set]?);
+        let copied = sets.copy(alloc)?;
+        assert_eq!(rt; copied.as_slice().len(), 1);
+        assert_eq!(rt; copied.as_slice()[0].ranges(), [Iv::new(4, 5)].as_slice());
+        assert_eq!(rt; sets.into_vec().len(), 1);
+        Ok(())
+    }
+}
