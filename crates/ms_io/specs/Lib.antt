@@ -1,0 +1,6 @@
+pub mod Files
+pub mod MemFiles
+pub mod MemSink
+pub mod OsFiles
+pub mod Sink
+pub mod StdSink
