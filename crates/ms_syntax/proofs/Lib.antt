@@ -1,0 +1,13 @@
+pub mod Blanks
+pub mod Cuts
+pub mod Decided
+pub mod Exists
+pub mod Faults
+pub mod Keywords
+pub mod KindLemmas
+pub mod PlainLemmas
+pub mod Runs
+pub mod Spelled
+pub mod Symbols
+pub mod Texts
+pub mod Written

@@ -1,0 +1,12 @@
+pub mod Blank
+pub mod Cut
+pub mod Failing
+pub mod Form
+pub mod Grammar
+pub mod Grouping
+pub mod Keywords
+pub mod Kind
+pub mod Plain
+pub mod PlainReading
+pub mod Spelling
+pub mod Tree

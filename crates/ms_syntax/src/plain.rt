@@ -1,0 +1,68 @@
+//! The plain form: variables with ranges of numbers, comparisons of sums, and `solve satisfy`.
+
+ghost use Rattle.std.specs.Prelude.{◌≡◌, ℕ, List};
+ghost use Rattle.ms_syntax.specs.Plain.{model_tokens, IsPlainText};
+
+use crate::token::Word;
+use sqlite_items::Items;
+
+/// A number as it is written, with a `-` before its digits or not.
+#[derive(Clone, Copy, Debug, PartialEq, Eq)]
+pub struct Number {
+    pub negative: bool,
+    pub magnitude: u64,
+}
+
+/// `var LOWEST .. HIGHEST : NAME ;`
+#[derive(Debug, Drop)]
+pub struct PlainDeclaration {
+    pub lowest: Number,
+    pub highest: Number,
+    pub name: Word,
+}
+
+#[derive(Debug, Drop)]
+pub enum Term {
+    Number(Number),
+    Name(Word),
+}
+
+/// Terms with `+` between them.
+#[derive(Debug, Drop)]
+pub struct Total {
+    pub first: Term,
+    pub others: Items<Term>,
+}
+
+#[derive(Clone, Copy, Debug, PartialEq, Eq)]
+pub enum Relation {
+    Equal,
+    NotEqual,
+    Less,
+    AtMost,
+    Greater,
+    AtLeast,
+}
+
+/// `constraint LEFT RELATION RIGHT ;`
+#[derive(Debug, Drop)]
+pub struct Comparison {
+    pub left: Total,
+    pub relation: Relation,
+    pub right: Total,
+}
+
+/// A text of the plain form.
+#[derive(Debug, Drop)]
+pub struct PlainModel {
+    pub declarations: Items<PlainDeclaration>,
+    pub constraints: Items<Comparison>,
+    /// Whether the last `;` is there.
+    pub closed: bool,
+}
+
+/// A token list is written by one model of the plain form at most, and so is a text.
+pub fn one_plain_model()
+    ensures of_tokens { (m n : PlainModel) → model_tokens m ≡ model_tokens n → m ≡ n }
+    ensures of_text { (m n : PlainModel) (bytes : List ℕ) → IsPlainText m bytes → IsPlainText n bytes → m ≡ n }
+{}

@@ -1,0 +1,276 @@
+use crate::token::{Place, Word};
+
+/// What stands between two operands.
+#[derive(Clone, Copy, Debug, PartialEq, Eq)]
+pub enum Operator {
+    /// `<->`
+    Equivalent,
+    /// `->`
+    Implies,
+    /// `<-`
+    ImpliedBy,
+    /// `\/`
+    Or,
+    /// `xor`
+    Xor,
+    /// `/\`
+    And,
+    /// `=`
+    Equal,
+    /// `!=`
+    NotEqual,
+    /// `<`
+    Less,
+    /// `<=`
+    AtMost,
+    /// `>`
+    Greater,
+    /// `>=`
+    AtLeast,
+    /// `in`
+    In,
+    /// `..`
+    To,
+    /// `+`
+    Plus,
+    /// `-`
+    Minus,
+    /// `*`
+    Times,
+    /// `div`
+    Div,
+    /// `mod`
+    Mod,
+    /// `++`
+    Concat,
+}
+
+/// What stands before an operand.
+#[derive(Clone, Copy, Debug, PartialEq, Eq)]
+pub enum Sign {
+    Not,
+    Minus,
+}
+
+/// Whether a kind is marked as variable or as a parameter.
+#[derive(Clone, Copy, Debug, PartialEq, Eq)]
+pub enum Mode {
+    Unmarked,
+    Var,
+    Par,
+}
+
+/// A name that a generator or an enumeration declares, with its place.
+#[derive(Debug, Drop)]
+pub struct Binder {
+    pub place: Place,
+    pub name: Word,
+}
+
+/// Expressions. The levels of operators come first, the loosest of them first; each is a first operand and the
+/// operators that follow it, each with its place and its operand. The place of any other node is that of its
+/// first token.
+#[cycle(ast)]
+#[derive(Drop)]
+pub enum Expr {
+    /// `let { a; b } in c`: the declarations, whether a last `;` is there, and the body.
+    Let(Place, Vec<Declaration>, bool, Box<Expr>),
+    /// `a <-> b`, grouped to the left.
+    Equivalence(Box<Expr>, Vec<Link>),
+    /// `a -> b`, `a <- b`, grouped to the left.
+    Implication(Box<Expr>, Vec<Link>),
+    /// `a \/ b`, `a xor b`, grouped to the left.
+    Disjunction(Box<Expr>, Vec<Link>),
+    /// `a /\ b`, grouped to the left.
+    Conjunction(Box<Expr>, Vec<Link>),
+    /// `a = b`, `a < b` and so on: one operator.
+    Comparison(Box<Expr>, Box<Link>),
+    /// `a in b`: one operator.
+    Membership(Box<Expr>, Box<Link>),
+    /// `a .. b`: one operator.
+    Range(Box<Expr>, Box<Link>),
+    /// `a + b`, `a - b`, grouped to the left.
+    Sum(Box<Expr>, Vec<Link>),
+    /// `a * b`, `a div b`, `a mod b`, grouped to the left.
+    Product(Box<Expr>, Vec<Link>),
+    /// `a ++ b`, grouped to the right.
+    Concatenation(Box<Expr>, Vec<Link>),
+    /// `not a`, `-a`
+    Prefix(Place, Sign, Box<Expr>),
+    /// `a[i]`, `a[i, j]`, `a[i][j]`: the array and one subscript or more.
+    Access(Place, Box<Expr>, Vec<Subscript>),
+    Number(Place, u64),
+    Text(Place, Word),
+    /// `true`, `false`
+    Truth(Place, bool),
+    Name(Place, Word),
+    /// `f(a, b)`
+    Call(Place, Word, Vec<Expr>),
+    /// `f(i in s where c)(e)`
+    GeneratorCall(Place, Word, Generators, Box<Expr>),
+    Parenthesis(Place, Box<Expr>),
+    /// `[a, b]`
+    Array(Place, Vec<Expr>),
+    /// `[e | i in s where c]`
+    Comprehension(Place, Box<Expr>, Generators),
+    /// `[| a, b | c, d |]`
+    Rows(Place, Vec<Row>),
+    /// `{a, b}`
+    Set(Place, Vec<Expr>),
+    /// The condition, its branch, the further conditions with theirs, and the last branch.
+    If(Place, Box<Expr>, Box<Expr>, Vec<Arm>, Box<Expr>),
+}
+
+/// An operator, with its place and its right operand.
+#[cycle(ast)]
+#[derive(Drop)]
+pub struct Link {
+    pub operator: Operator,
+    pub place: Place,
+    pub operand: Expr,
+}
+
+/// `elseif condition then branch`
+#[cycle(ast)]
+#[derive(Drop)]
+pub struct Arm {
+    pub condition: Expr,
+    pub branch: Expr,
+}
+
+/// A row of an array of two dimensions, with one element or more.
+#[cycle(ast)]
+#[derive(Drop)]
+pub struct Row {
+    pub elements: Vec<Expr>,
+}
+
+/// `[first]` or `[first, second]`
+#[cycle(ast)]
+#[derive(Drop)]
+pub struct Subscript {
+    pub first: Expr,
+    pub second: Option<Expr>,
+}
+
+/// One generator or more, and what stands after `where`.
+#[cycle(ast)]
+#[derive(Drop)]
+pub struct Generators {
+    pub list: Vec<Generator>,
+    pub condition: Option<Box<Expr>>,
+}
+
+/// `i, j in set`: one name or more. Its place is that of its first name.
+#[cycle(ast)]
+#[derive(Drop)]
+pub struct Generator {
+    pub names: Vec<Binder>,
+    pub set: Expr,
+}
+
+/// `kind: name :: notes = value`
+#[cycle(ast)]
+#[derive(Drop)]
+pub struct Declaration {
+    pub place: Place,
+    pub kind: Kind,
+    pub name: Word,
+    pub notes: Vec<Note>,
+    pub value: Option<Expr>,
+}
+
+/// What a declaration says of its name. `indices` has one or two index sets for an array, and else none.
+#[cycle(ast)]
+#[derive(Drop)]
+pub struct Kind {
+    pub indices: Vec<Index>,
+    pub mode: Mode,
+    pub base: Base,
+}
+
+#[cycle(ast)]
+#[derive(Drop)]
+pub enum Base {
+    Bool,
+    Int,
+    String,
+    Ann,
+    SetOfInt,
+    SetOf(Expr),
+    /// The values of a set.
+    Within(Expr),
+}
+
+/// An index set of an array.
+#[cycle(ast)]
+#[derive(Drop)]
+pub enum Index {
+    AnyInt,
+    Over(Expr),
+}
+
+/// `:: name` or `:: name(arguments)`: no arguments where no brackets stand. Its place is that of its `::`.
+#[cycle(ast)]
+#[derive(Drop)]
+pub struct Note {
+    pub place: Place,
+    pub name: Word,
+    pub arguments: Vec<Expr>,
+}
+
+/// A parameter of a predicate or function.
+#[derive(Drop)]
+pub struct Parameter {
+    pub place: Place,
+    pub kind: Kind,
+    pub name: Word,
+}
+
+/// What a solve item asks for.
+#[derive(Drop)]
+pub enum Goal {
+    Satisfy(Place),
+    Minimize(Place, Expr),
+    Maximize(Place, Expr),
+    Search(Place, Expr),
+}
+
+/// Items, each with the place of its first token.
+#[derive(Drop)]
+pub enum Item {
+    Include(Place, Word),
+    Declare(Declaration),
+    /// An enumeration, and its names where they are given.
+    Enum(Place, Word, Option<Vec<Binder>>),
+    Assign(Place, Word, Expr),
+    Constraint(Place, Expr, Vec<Note>),
+    Solve(Place, Vec<Note>, Goal),
+    Output(Place, Expr),
+    Predicate(Place, Word, Vec<Parameter>, Expr),
+    Function(Place, Kind, Word, Vec<Parameter>, Expr),
+}
+
+/// A model or a library.
+#[derive(Drop)]
+pub struct Tree {
+    pub items: Vec<Item>,
+    /// Whether the last `;` is there.
+    pub closed: bool,
+}
+
+/// `name = value`
+#[derive(Drop)]
+pub struct Assignment {
+    pub place: Place,
+    pub name: Word,
+    pub value: Expr,
+}
+
+/// Data.
+#[derive(Drop)]
+pub struct Assignments {
+    pub list: Vec<Assignment>,
+    /// Whether the last `;` is there.
+    pub closed: bool,
+}
