@@ -1,0 +1,41 @@
+//! Lines and columns.
+
+ghost use Rattle.std.specs.Prelude.{◌≡◌, ◌≤◌, ◌<◌, ◌^◌, ◌+◌, length, fold, take};
+ghost use Rattle.ms_syntax.specs.Cut.{next_place, place_behind};
+
+use ms_syntax::Place;
+
+/// The place behind the bytes, where the first of them is at `place`.
+pub fn place_after(place: Place, bytes: &[u8]) -> Place
+    requires line { place.line + length bytes.now < 2 ^ 32 }
+    requires col { place.col + length bytes.now < 2 ^ 32 }
+    requires begun { 0 < place.col }
+    ensures value { result ≡ fold next_place place bytes.now }
+    ensures line { result.line ≤ place.line + length bytes.now }
+    ensures col { (0 < result.col) × (result.col ≤ place.col + length bytes.now) }
+{
+    let mut place = place;
+    for b in bytes {
+        if *b == b'\n' {
+            place.line += 1;
+            place.col = 1;
+        } else {
+            place.col += 1;
+        }
+    }
+    place
+}
+
+/// The place of the byte `at` of a file, or behind its end where `at` is the length.
+pub fn place_of(file: u8, bytes: &[u8], at: usize) -> Place
+    requires within { at ≤ length bytes.now }
+    requires short { length bytes.now ≤ 1048576 }
+    ensures { result ≡ place_behind file (take at bytes.now) }
+{
+    let first = Place {
+        file,
+        line: 1,
+        col: 1,
+    };
+    place_after(first, &bytes[..at])
+}
