@@ -1,0 +1,4 @@
+pub mod Reading
+pub mod Kinds
+pub mod Rules
+pub mod Reads

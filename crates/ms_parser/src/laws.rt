@@ -1,0 +1,30 @@
+//! What the grammar says of all trees: tokens with their places are written by one at most.
+
+ghost use Rattle.std.specs.Prelude.{◌≡◌, ◌==◌, ℕ, false};
+ghost use Rattle.ms_syntax.specs.declared.token.Place.{Place};
+ghost use Rattle.ms_syntax.specs.declared.tree.Operator.{Operator};
+ghost use Rattle.ms_syntax.specs.Tree.{Ex, Items, Links, Pairs, link, of_concat};
+ghost use Rattle.ms_syntax.specs.Grouping.{grouped, followed_by, operand, operation};
+ghost use Rattle.ms_syntax.specs.Grammar.{Tokens, Writes, WritesTree, WritesPairs, IsShallow};
+
+/// Tokens that nest no deeper than they may are written by one expression at most.
+pub fn one_expression()
+    ensures { (ts : Tokens) (x y : Ex) → Writes x ts → Writes y ts → IsShallow ts → x ≡ y }
+{}
+
+/// The same of models.
+pub fn one_model()
+    ensures { (ts : Tokens) (x y : Items) → WritesTree x ts → WritesTree y ts → IsShallow ts → x ≡ y }
+{}
+
+/// The same of data.
+pub fn one_data()
+    ensures { (ts : Tokens) (x y : Pairs) → WritesPairs x ts → WritesPairs y ts → IsShallow ts → x ≡ y }
+{}
+
+/// The last operator of a chain holds all before it, but for `++`, whose first holds all behind it. So the last
+/// operator's place is that of the whole chain, and for `++` that of the first.
+pub fn chains_group()
+    ensures left { (n : ℕ) (e f : Ex) (links : Links) (op : Operator) (p : Place) → (n == of_concat) ≡ false → grouped n e (followed_by links op p f) ≡ operation op p (grouped n e links) (operand f) }
+    ensures right { (e f : Ex) (links : Links) (op : Operator) (p : Place) → grouped of_concat e (link op p f links) ≡ operation op p (operand e) (grouped of_concat f links) }
+{}
