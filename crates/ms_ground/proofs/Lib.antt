@@ -1,0 +1,13 @@
+pub mod Bools
+pub mod Layers
+pub mod Points
+pub mod Lists
+pub mod Places
+pub mod Apart
+pub mod Divisions
+pub mod Exact
+pub mod Fits
+pub mod Smaller
+pub mod Walks
+pub mod Boxes
+pub mod Refutes

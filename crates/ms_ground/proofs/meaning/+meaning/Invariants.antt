@@ -1,0 +1,48 @@
+use Rattle.std.proofs.Common.{◌≡◌, ℕ, ◌+◌, ◌<◌, ◌≤◌, true, ◌&&◌, Some, map, drop, pos, length, get_or}
+use Rattle.ms_num.specs.Numbers.{add_at, int_eq}
+use Rattle.ms_num.specs.Span.{point}
+use Rattle.ms_ground.specs.Value.{Meaning, value, folded, extreme, selected, all_defined, how_many, compare, all_true, any_true}
+use Rattle.ms_ground.specs.Reach.{reach, points}
+use Rattle.ms_ground.specs.Access.{reaches}
+use Rattle.ms_ground.specs.Extreme.{extreme_at, onward}
+use Rattle.ms_ground.specs.Fit.{numbers, truths, sums_fit, checked}
+use Rattle.ms_ground.proofs.meaning.+meaning.Given as goal
+
+abbrev pub invariant-sum_at-loop-part : goal.invariant-sum_at-loop-part
+invariant-sum_at-loop-part l = record {
+  fit : numbers (map (checked (points l.point)) (drop l.part-index l.parts)) ≡ true;
+  narrow : sums_fit (Some (point l.total)) (map (reach (points l.point)) (drop l.part-index l.parts)) ≡ true;
+  rest : folded add_at (Some l.total) (map (value l.point) (drop l.part-index l.parts)) ≡ folded add_at (Some (pos 0)) (map (value l.point) l.parts);
+}
+
+abbrev pub invariant-extreme_at-loop-part : goal.invariant-extreme_at-loop-part
+invariant-extreme_at-loop-part l = record {
+  fit : numbers (map (checked (points l.point)) (drop l.part-index l.parts)) ≡ true;
+  rest : onward (extreme_at l.which) l.best (map (value l.point) (drop l.part-index l.parts)) ≡ extreme (extreme_at l.which) (map (value l.point) l.parts);
+}
+
+abbrev pub invariant-selected_at-loop-place : goal.invariant-selected_at-loop-place
+invariant-selected_at-loop-place l = record {
+  fit : numbers (map (checked (points l.point)) (drop l.place l.parts)) ≡ true;
+  rest : selected (reaches l.access) l.place (map (value l.point) (drop l.place l.parts)) ≡ selected (reaches l.access) 0 (map (value l.point) l.parts);
+}
+
+abbrev pub invariant-count_at-loop-part : goal.invariant-count_at-loop-part
+invariant-count_at-loop-part l = record {
+  fit : numbers (map (checked (points l.point)) (drop l.part-index l.parts)) ≡ true;
+  below : l.count ≤ l.part-index;
+  defined : all_defined (map (value l.point) (drop l.part-index l.parts)) ≡ all_defined (map (value l.point) l.parts);
+  rest : l.count + how_many (λ (m : Meaning). compare int_eq m.number (Some l.fn.n)) (map (value l.point) (drop l.part-index l.parts)) ≡ how_many (λ (m : Meaning). compare int_eq m.number (Some l.fn.n)) (map (value l.point) l.parts);
+}
+
+abbrev pub invariant-all_hold-loop-part : goal.invariant-all_hold-loop-part
+invariant-all_hold-loop-part l = record {
+  fit : truths (map (checked (points l.point)) (drop l.part-index l.parts)) ≡ true;
+  rest : all_true (map (value l.point) (drop l.part-index l.parts)) ≡ all_true (map (value l.point) l.parts);
+}
+
+abbrev pub invariant-some_holds-loop-part : goal.invariant-some_holds-loop-part
+invariant-some_holds-loop-part l = record {
+  fit : truths (map (checked (points l.point)) (drop l.part-index l.parts)) ≡ true;
+  rest : any_true (map (value l.point) (drop l.part-index l.parts)) ≡ any_true (map (value l.point) l.parts);
+}

@@ -1,0 +1,269 @@
+use Rattle.std.proofs.Common.{◌≡◌, ℕ, ◌+◌, Bool, false, ◌&&◌, ◌||◌, List, [], Some, None, map, drop, get_or, arith, ap, ◌∙◌, sym, rules, w64, SFits}
+use Rattle.std.specs.Prelude.{pos, is_some, if◌then◌else◌}
+use Rattle.std.proofs.lemmas.Int.{to_z-of_z}
+use Rattle.std.proofs.lemmas.List.{drop_all}
+use Rattle.ms_num.specs.Span.{point, has, join_some}
+use Rattle.ms_ground.specs.Reach as r
+use Rattle.ms_ground.specs.Reach.{reach}
+use Rattle.ms_ground.specs.Access.{reaches}
+use Rattle.ms_ground.specs.Extreme.{extreme_span, onward_on}
+use Rattle.ms_ground.specs.declared.tree.Ground.TheFolds.{the_lemmas}
+use Rattle.ms_ground.proofs.Bools.{ap2, or_none}
+use Rattle.ms_ground.proofs.Fits.{fit-Abs, fit-Add, fit-And, fit-BVar, fit-Count, fit-Div, fit-Elem, fit-Eq, fit-Greatest, fit-Iff, fit-Imp, fit-In, fit-IteB, fit-IteI, fit-Le, fit-Least, fit-Lt, fit-Mod, fit-Mul, fit-Ne, fit-Neg, fit-Not, fit-Or, fit-Sub, fit-Sum, fit-ToInt, fit-Var, fit-Xor, fit-sums, fits-Num, fits-Add, fits-Sub, fits-Mul, drop_here, spans_on, truths_on, read_default}
+use Rattle.ms_ground.proofs.Walks.{counted_one, at_most_one}
+use Rattle.ms_ground.proofs.Boxes.{PlaceOn, parts_on, onward_end, join_end, place_taken, place_passed, count_interval}
+use Rattle.ms_ground.proofs.Smaller.{truth_some}
+use Rattle.ms_ground.proofs.reaching.+reach.Goals as goal
+use Rattle.ms_ground.proofs.reaching.+reach.Goals.{selected_on-then-reaches, selected_on-else-reaches}
+
+pub numbers_on-numbers_on-x-requires : goal.numbers_on-numbers_on-x-requires
+numbers_on-numbers_on-x-requires t c = (search (rules, the_lemmas), rw c.get.ensures ((fit-Add _ _ _ (rw c.in-Add.is at c.requires)).left))
+
+pub numbers_on-numbers_on-y-requires : goal.numbers_on-numbers_on-y-requires
+numbers_on-numbers_on-y-requires t c = (search (rules, the_lemmas), rw c.get-in-Add.ensures ((fit-Add _ _ _ (rw c.in-Add.is at c.requires)).right))
+
+pub numbers_on-numbers_on-x-requires-in-Sub : goal.numbers_on-numbers_on-x-requires-in-Sub
+numbers_on-numbers_on-x-requires-in-Sub t c = (search (rules, the_lemmas), rw c.get-in-Sub.ensures ((fit-Sub _ _ _ (rw c.in-Sub.is at c.requires)).left))
+
+pub numbers_on-numbers_on-y-requires-in-Sub : goal.numbers_on-numbers_on-y-requires-in-Sub
+numbers_on-numbers_on-y-requires-in-Sub t c = (search (rules, the_lemmas), rw c.get-in-Sub-2.ensures ((fit-Sub _ _ _ (rw c.in-Sub.is at c.requires)).right))
+
+pub numbers_on-numbers_on-x-requires-in-Mul : goal.numbers_on-numbers_on-x-requires-in-Mul
+numbers_on-numbers_on-x-requires-in-Mul t c = (search (rules, the_lemmas), rw c.get-in-Mul.ensures ((fit-Mul _ _ _ (rw c.in-Mul.is at c.requires)).left))
+
+pub numbers_on-numbers_on-y-requires-in-Mul : goal.numbers_on-numbers_on-y-requires-in-Mul
+numbers_on-numbers_on-y-requires-in-Mul t c = (search (rules, the_lemmas), rw c.get-in-Mul-2.ensures ((fit-Mul _ _ _ (rw c.in-Mul.is at c.requires)).right))
+
+pub numbers_on-numbers_on-requires : goal.numbers_on-numbers_on-requires
+numbers_on-numbers_on-requires t c = (search (rules, the_lemmas), rw c.get-in-Div.ensures ((fit-Div _ _ _ (rw c.in-Div.is at c.requires)).left))
+
+pub numbers_on-numbers_on-requires-in-Div : goal.numbers_on-numbers_on-requires-in-Div
+numbers_on-numbers_on-requires-in-Div t c = (search (rules, the_lemmas), rw c.get-in-Div-2.ensures ((fit-Div _ _ _ (rw c.in-Div.is at c.requires)).right))
+
+pub numbers_on-numbers_on-requires-in-Mod : goal.numbers_on-numbers_on-requires-in-Mod
+numbers_on-numbers_on-requires-in-Mod t c = (search (rules, the_lemmas), rw c.get-in-Mod.ensures ((fit-Mod _ _ _ (rw c.in-Mod.is at c.requires)).left))
+
+pub numbers_on-numbers_on-requires-in-Mod-2 : goal.numbers_on-numbers_on-requires-in-Mod-2
+numbers_on-numbers_on-requires-in-Mod-2 t c = (search (rules, the_lemmas), rw c.get-in-Mod-2.ensures ((fit-Mod _ _ _ (rw c.in-Mod.is at c.requires)).right))
+
+pub numbers_on-numbers_on-requires-in-Neg : goal.numbers_on-numbers_on-requires-in-Neg
+numbers_on-numbers_on-requires-in-Neg t c = (search (rules, the_lemmas), rw c.get-in-Neg.ensures ((fit-Neg _ _ (rw c.in-Neg.is at c.requires)).fit))
+
+pub numbers_on-numbers_on-requires-in-Abs : goal.numbers_on-numbers_on-requires-in-Abs
+numbers_on-numbers_on-requires-in-Abs t c = (search (rules, the_lemmas), rw c.get-in-Abs.ensures ((fit-Abs _ _ (rw c.in-Abs.is at c.requires)).fit))
+
+pub numbers_on-sum_on-requires : goal.numbers_on-sum_on-requires
+numbers_on-sum_on-requires t c = (search (rules, the_lemmas), (rw c.as_slice.ensures (fit-Sum _ _ (rw c.in-Sum.is at c.requires)), rw c.as_slice.ensures (fit-sums _ _ (rw c.in-Sum.is at c.requires))))
+
+pub numbers_on-extreme_on-requires : goal.numbers_on-extreme_on-requires
+numbers_on-extreme_on-requires t c = (search (rules, the_lemmas), rw c.as_slice-in-Least.ensures (fit-Least _ _ (rw c.in-Least.is at c.requires)))
+
+pub numbers_on-extreme_on-requires-in-Greatest : goal.numbers_on-extreme_on-requires-in-Greatest
+numbers_on-extreme_on-requires-in-Greatest t c = (search (rules, the_lemmas), rw c.as_slice-in-Greatest.ensures (fit-Greatest _ _ (rw c.in-Greatest.is at c.requires)))
+
+pub numbers_on-truths_on-x-requires : goal.numbers_on-truths_on-x-requires
+numbers_on-truths_on-x-requires t c = (search (rules, the_lemmas), rw c.get-in-ToInt.ensures ((fit-ToInt _ _ (rw c.in-ToInt.is at c.requires)).fit))
+
+pub numbers_on-numbers_on-i-requires : goal.numbers_on-numbers_on-i-requires
+numbers_on-numbers_on-i-requires t c = (search (rules, the_lemmas), rw c.get-in-Elem.ensures ((fit-Elem _ _ _ _ (rw c.in-Elem.is at c.requires)).beside.fit))
+
+pub numbers_on-selected_on-requires : goal.numbers_on-selected_on-requires
+numbers_on-selected_on-requires t c =
+    (rw c.as_slice-in-Elem.ensures (search (rules, the_lemmas)), rw c.as_slice-in-Elem.ensures ((fit-Elem _ _ _ _ (rw c.in-Elem.is at c.requires)).list))
+
+pub numbers_on-numbers_on-y-requires-in-Count : goal.numbers_on-numbers_on-y-requires-in-Count
+numbers_on-numbers_on-y-requires-in-Count t c = (search (rules, the_lemmas), rw c.get-in-Count.ensures ((fit-Count _ _ _ (rw c.in-Count.is at c.requires)).beside.fit))
+
+pub numbers_on-truths_on-c-requires : goal.numbers_on-truths_on-c-requires
+numbers_on-truths_on-c-requires t c = (search (rules, the_lemmas), rw c.get-in-IteI.ensures ((fit-IteI _ _ _ _ (rw c.in-IteI.is at c.requires)).condition.fit))
+
+pub numbers_on-numbers_on-requires-in-IteI : goal.numbers_on-numbers_on-requires-in-IteI
+numbers_on-numbers_on-requires-in-IteI t c = (search (rules, the_lemmas), rw c.get-in-IteI-2.ensures ((fit-IteI _ _ _ _ (rw c.in-IteI.is at c.requires)).first.fit))
+
+pub numbers_on-numbers_on-requires-in-IteI-2 : goal.numbers_on-numbers_on-requires-in-IteI-2
+numbers_on-numbers_on-requires-in-IteI-2 t c = (search (rules, the_lemmas), rw c.get-in-IteI-3.ensures ((fit-IteI _ _ _ _ (rw c.in-IteI.is at c.requires)).second.fit))
+
+pub truths_on-all_on-requires : goal.truths_on-all_on-requires
+truths_on-all_on-requires t c = (search (rules, the_lemmas), rw c.as_slice.ensures (fit-And _ _ (rw c.in-And.is at c.requires)))
+
+pub truths_on-any_on-requires : goal.truths_on-any_on-requires
+truths_on-any_on-requires t c = (search (rules, the_lemmas), rw c.as_slice-in-Or.ensures (fit-Or _ _ (rw c.in-Or.is at c.requires)))
+
+pub truths_on-truths_on-x-requires : goal.truths_on-truths_on-x-requires
+truths_on-truths_on-x-requires t c = (search (rules, the_lemmas), rw c.get.ensures ((fit-Not _ _ (rw c.in-Not.is at c.requires)).fit))
+
+pub truths_on-truths_on-requires : goal.truths_on-truths_on-requires
+truths_on-truths_on-requires t c = (search (rules, the_lemmas), rw c.get-in-Iff.ensures ((fit-Iff _ _ _ (rw c.in-Iff.is at c.requires)).left))
+
+pub truths_on-truths_on-requires-in-Iff : goal.truths_on-truths_on-requires-in-Iff
+truths_on-truths_on-requires-in-Iff t c = (search (rules, the_lemmas), rw c.get-in-Iff-2.ensures ((fit-Iff _ _ _ (rw c.in-Iff.is at c.requires)).right))
+
+pub truths_on-truths_on-requires-in-Imp : goal.truths_on-truths_on-requires-in-Imp
+truths_on-truths_on-requires-in-Imp t c = (search (rules, the_lemmas), rw c.get-in-Imp.ensures ((fit-Imp _ _ _ (rw c.in-Imp.is at c.requires)).left))
+
+pub truths_on-truths_on-requires-in-Imp-2 : goal.truths_on-truths_on-requires-in-Imp-2
+truths_on-truths_on-requires-in-Imp-2 t c = (search (rules, the_lemmas), rw c.get-in-Imp-2.ensures ((fit-Imp _ _ _ (rw c.in-Imp.is at c.requires)).right))
+
+pub truths_on-truths_on-requires-in-Xor : goal.truths_on-truths_on-requires-in-Xor
+truths_on-truths_on-requires-in-Xor t c = (search (rules, the_lemmas), rw c.get-in-Xor.ensures ((fit-Xor _ _ _ (rw c.in-Xor.is at c.requires)).left))
+
+pub truths_on-truths_on-requires-in-Xor-2 : goal.truths_on-truths_on-requires-in-Xor-2
+truths_on-truths_on-requires-in-Xor-2 t c = (search (rules, the_lemmas), rw c.get-in-Xor-2.ensures ((fit-Xor _ _ _ (rw c.in-Xor.is at c.requires)).right))
+
+pub truths_on-numbers_on-requires : goal.truths_on-numbers_on-requires
+truths_on-numbers_on-requires t c = (search (rules, the_lemmas), rw c.get-in-Eq.ensures ((fit-Eq _ _ _ (rw c.in-Eq.is at c.requires)).left))
+
+pub truths_on-numbers_on-requires-in-Eq : goal.truths_on-numbers_on-requires-in-Eq
+truths_on-numbers_on-requires-in-Eq t c = (search (rules, the_lemmas), rw c.get-in-Eq-2.ensures ((fit-Eq _ _ _ (rw c.in-Eq.is at c.requires)).right))
+
+pub truths_on-numbers_on-requires-in-Ne : goal.truths_on-numbers_on-requires-in-Ne
+truths_on-numbers_on-requires-in-Ne t c = (search (rules, the_lemmas), rw c.get-in-Ne.ensures ((fit-Ne _ _ _ (rw c.in-Ne.is at c.requires)).left))
+
+pub truths_on-numbers_on-requires-in-Ne-2 : goal.truths_on-numbers_on-requires-in-Ne-2
+truths_on-numbers_on-requires-in-Ne-2 t c = (search (rules, the_lemmas), rw c.get-in-Ne-2.ensures ((fit-Ne _ _ _ (rw c.in-Ne.is at c.requires)).right))
+
+pub truths_on-numbers_on-requires-in-Lt : goal.truths_on-numbers_on-requires-in-Lt
+truths_on-numbers_on-requires-in-Lt t c = (search (rules, the_lemmas), rw c.get-in-Lt.ensures ((fit-Lt _ _ _ (rw c.in-Lt.is at c.requires)).left))
+
+pub truths_on-numbers_on-requires-in-Lt-2 : goal.truths_on-numbers_on-requires-in-Lt-2
+truths_on-numbers_on-requires-in-Lt-2 t c = (search (rules, the_lemmas), rw c.get-in-Lt-2.ensures ((fit-Lt _ _ _ (rw c.in-Lt.is at c.requires)).right))
+
+pub truths_on-numbers_on-requires-in-Le : goal.truths_on-numbers_on-requires-in-Le
+truths_on-numbers_on-requires-in-Le t c = (search (rules, the_lemmas), rw c.get-in-Le.ensures ((fit-Le _ _ _ (rw c.in-Le.is at c.requires)).left))
+
+pub truths_on-numbers_on-requires-in-Le-2 : goal.truths_on-numbers_on-requires-in-Le-2
+truths_on-numbers_on-requires-in-Le-2 t c = (search (rules, the_lemmas), rw c.get-in-Le-2.ensures ((fit-Le _ _ _ (rw c.in-Le.is at c.requires)).right))
+
+pub truths_on-truths_on-c-requires : goal.truths_on-truths_on-c-requires
+truths_on-truths_on-c-requires t c = (search (rules, the_lemmas), rw c.get-in-IteB.ensures ((fit-IteB _ _ _ _ (rw c.in-IteB.is at c.requires)).condition.fit))
+
+pub truths_on-truths_on-requires-in-IteB : goal.truths_on-truths_on-requires-in-IteB
+truths_on-truths_on-requires-in-IteB t c = (search (rules, the_lemmas), rw c.get-in-IteB-2.ensures ((fit-IteB _ _ _ _ (rw c.in-IteB.is at c.requires)).first.fit))
+
+pub truths_on-truths_on-requires-in-IteB-2 : goal.truths_on-truths_on-requires-in-IteB-2
+truths_on-truths_on-requires-in-IteB-2 t c = (search (rules, the_lemmas), rw c.get-in-IteB-3.ensures ((fit-IteB _ _ _ _ (rw c.in-IteB.is at c.requires)).second.fit))
+
+pub truths_on-numbers_on-requires-in-In : goal.truths_on-numbers_on-requires-in-In
+truths_on-numbers_on-requires-in-In t c = (search (rules, the_lemmas), rw c.get-in-In.ensures ((fit-In _ _ _ (rw c.in-In.is at c.requires)).fit))
+
+pub numbers_on-count_on-requires : goal.numbers_on-count_on-requires
+numbers_on-count_on-requires t c =
+    let whole = rw c.in-Count.is at c.requires in
+    (search (rules, the_lemmas), (rw c.as_slice-in-Count.ensures ((fit-Count _ _ _ whole).list), rw (c.as_slice-in-Count.ensures, c.numbers_on-y-in-Count.ensures, c.get-in-Count.ensures) (count_interval c.args.sets.now _ _ whole)))
+
+pub numbers_on-single-requires : goal.numbers_on-single-requires
+numbers_on-single-requires t c =
+    let n : SFits w64 c.in-Num.n = search rules in
+    rw (to_z-of_z w64 c.in-Num.n n) (fits-Num c.args.sets.now c.in-Num.n (rw c.in-Num.is at c.requires))
+
+pub numbers_on-bounds-sets-v : goal.numbers_on-bounds-sets-v
+numbers_on-bounds-sets-v t c = (fit-Var c.args.sets.now c.in-Var.v (rw c.in-Var.is at c.requires)).within
+
+pub truths_on-bounds-sets-v : goal.truths_on-bounds-sets-v
+truths_on-bounds-sets-v t c = (fit-BVar c.args.sets.now c.in-BVar.v (rw c.in-BVar.is at c.requires)).within
+
+pub numbers_on-sum-requires : goal.numbers_on-sum-requires
+numbers_on-sum-requires t c = rw (c.numbers_on-x.ensures, c.get.ensures, c.numbers_on-y.ensures, c.get-in-Add.ensures) (fits-Add _ _ _ (rw c.in-Add.is at c.requires))
+
+pub numbers_on-difference-requires : goal.numbers_on-difference-requires
+numbers_on-difference-requires t c = rw (c.numbers_on-x-in-Sub.ensures, c.get-in-Sub.ensures, c.numbers_on-y-in-Sub.ensures, c.get-in-Sub-2.ensures) (fits-Sub _ _ _ (rw c.in-Sub.is at c.requires))
+
+pub numbers_on-product-requires : goal.numbers_on-product-requires
+numbers_on-product-requires t c = rw (c.numbers_on-x-in-Mul.ensures, c.get-in-Mul.ensures, c.numbers_on-y-in-Mul.ensures, c.get-in-Mul-2.ensures) (fits-Mul _ _ _ (rw c.in-Mul.is at c.requires))
+
+pub numbers_on-bits-requires : goal.numbers_on-bits-requires
+numbers_on-bits-requires t c = rw (c.truths_on-x.ensures, c.get-in-ToInt.ensures) (truth_some _ _ (fit-ToInt _ _ (rw c.in-ToInt.is at c.requires)))
+
+pub numbers_on-returns-in-Var : goal.numbers_on-returns-in-Var
+numbers_on-returns-in-Var t c =
+    let n = c.index-sets-v.result in
+    c.numeric-in-Var.ensures
+    ∙ ap (λ s. r.numeric (Some s) false) (c.index-sets-v.is ∙ read_default c.args.sets.now c.in-Var.v n (point (pos 0)) (fit-Var c.args.sets.now c.in-Var.v (rw c.in-Var.is at c.requires)).within)
+    ∙ sym (rw c.in-Var.is (search the_lemmas))
+
+pub truths_on-returns-in-BVar : goal.truths_on-returns-in-BVar
+truths_on-returns-in-BVar t c =
+    let n = c.index-sets-v.result in
+    let read : r.boolean c.has.result c.has-in-BVar.result ≡ r.boolean (has (get_or c.args.sets.now c.in-BVar.v (point (pos 0))) (pos 1)) (has (get_or c.args.sets.now c.in-BVar.v (point (pos 0))) (pos 0)) = rw (c.has.ensures, c.has-in-BVar.ensures) (ap (λ s. r.boolean (has s (pos 1)) (has s (pos 0))) (c.index-sets-v.is ∙ read_default c.args.sets.now c.in-BVar.v n (point (pos 0)) (fit-BVar c.args.sets.now c.in-BVar.v (rw c.in-BVar.is at c.requires)).within)) in
+    c.boolean-in-BVar.ensures ∙ read ∙ sym (rw c.in-BVar.is (search the_lemmas))
+
+pub sum_on-loop-part-preserved : goal.sum_on-loop-part-preserved
+sum_on-loop-part-preserved t c =
+    let l = c.loop-part in
+    let on = spans_on c.args.sets.now _ _ c.part-item.result l.total c.numbers_on-x.result (drop_here c.args.parts.now l.part-index c.part-item.result (omega arith) c.part-item.is) c.numbers_on-x.ensures l.invariant.fit l.invariant.narrow in
+    record { fit = on.fit; narrow = rw c.sum-total.ensures on.narrow; rest = rw c.sum-total.ensures (sym on.total ∙ l.invariant.rest); undefined = sym (on.undefined l.undefined) ∙ l.invariant.undefined }
+
+pub extreme_on-loop-part-preserved : goal.extreme_on-loop-part-preserved
+extreme_on-loop-part-preserved t c =
+    let l = c.loop-part in
+    let on = parts_on c.args.sets.now _ _ c.part-item.result c.numbers_on.result (drop_here c.args.parts.now l.part-index c.part-item.result (omega arith) c.part-item.is) c.numbers_on.ensures l.invariant.fit in
+    record { fit = on.fit; rest = rw c.take_reach.ensures (sym (on.onward (extreme_span c.args.which) l.best) ∙ l.invariant.rest) }
+
+pub extreme_on-returns-in-Some : goal.extreme_on-returns-in-Some
+extreme_on-returns-in-Some t c =
+    let l = c.loop-part in
+    let none : drop l.part-index c.args.parts.now ≡ [] = drop_all l.part-index c.args.parts.now c.loop-part-test.false in
+    let f = extreme_span c.args.which in
+    c.numeric.ensures ∙ sym (onward_end f c.in-Some.best)
+    ∙ ap (λ zs. onward_on f (Some c.in-Some.best) (map (reach c.args.sets.now) zs)) (sym none)
+    ∙ ap (λ o. onward_on f o (map (reach c.args.sets.now) (drop l.part-index c.args.parts.now))) (sym c.in-Some.is) ∙ l.invariant.rest
+
+pub extreme_on-returns-in-None : goal.extreme_on-returns-in-None
+extreme_on-returns-in-None t c =
+    let l = c.loop-part in
+    let none : drop l.part-index c.args.parts.now ≡ [] = drop_all l.part-index c.args.parts.now c.loop-part-test.false in
+    let f = extreme_span c.args.which in
+    c.numeric-in-None.ensures
+    ∙ ap (λ zs. onward_on f None (map (reach c.args.sets.now) zs)) (sym none)
+    ∙ ap (λ o. onward_on f o (map (reach c.args.sets.now) (drop l.part-index c.args.parts.now))) (sym c.in-None.is) ∙ l.invariant.rest
+
+pub selected_on-loop-place-preserved : goal.selected_on-loop-place-preserved
+selected_on-loop-place-preserved t c =
+    let l = c.loop-place in
+    let on : PlaceOn c.args.sets.now c.args.parts.now (reaches c.args.access.now) l.place l.so_far c.if-reaches.so_far =
+    elim c.if-reaches.branch [
+      | selected_on-then-reaches w ↦ place_taken c.args.sets.now c.args.parts.now (reaches c.args.access.now) l.place w.index-parts-place.result c.loop-place-test.true w.index-parts-place.is l.invariant.fit l.so_far c.if-reaches.so_far w.numbers_on.result (sym c.reaches.ensures ∙ w.if-reaches.true) w.numbers_on.ensures (w.so_far-is ∙ w.gather-so_far.ensures)
+      | selected_on-else-reaches w ↦ place_passed c.args.sets.now c.args.parts.now (reaches c.args.access.now) l.place c.loop-place-test.true l.invariant.fit l.so_far c.if-reaches.so_far (sym c.reaches.ensures ∙ w.if-reaches.false) w.so_far-is
+    ] in
+    record { fit = on.fit; numbers = on.numbers_next ∙ l.invariant.numbers; undefined = on.undefined_next ∙ l.invariant.undefined }
+
+pub selected_on-returns : goal.selected_on-returns
+selected_on-returns t c =
+    let l = c.loop-place in
+    let none : drop l.place c.args.parts.now ≡ [] = drop_all l.place c.args.parts.now c.loop-place-test.false in
+    let k = reaches c.args.access.now in
+    let i : l.so_far.numbers ≡ r.joined k 0 (map (reach c.args.sets.now) c.args.parts.now) = sym (join_end l.so_far.numbers) ∙ ap (λ zs. join_some l.so_far.numbers (r.joined k l.place (map (reach c.args.sets.now) zs))) (sym none) ∙ l.invariant.numbers in
+    let u : l.so_far.undefined ≡ (c.args.none || r.reached_undefined k 0 (map (reach c.args.sets.now) c.args.parts.now)) = sym (or_none l.so_far.undefined) ∙ ap (λ zs. l.so_far.undefined || r.reached_undefined k l.place (map (reach c.args.sets.now) zs)) (sym none) ∙ l.invariant.undefined in
+    c.numeric.ensures ∙ ap2 r.numeric i u
+
+pub count_on-loop-part-preserved : goal.count_on-loop-part-preserved
+count_on-loop-part-preserved t c =
+    let l = c.loop-part in
+    let x = c.numbers_on-x.result in
+    let y = c.args.y.numbers in
+    let on = parts_on c.args.sets.now _ _ c.part-item.result x (drop_here c.args.parts.now l.part-index c.part-item.result (omega arith) c.part-item.is) c.numbers_on-x.ensures l.invariant.fit in
+    let same : c.one_if-certain.result ≡ (if r.compare r.same_single x.numbers y then 1 else 0) = rw c.are_one.ensures at c.one_if-certain.ensures in
+    let meets : c.one_if-possible.result ≡ (if r.compare r.meets x.numbers y then 1 else 0) = rw c.meets.ensures at c.one_if-possible.ensures in
+    let few = at_most_one (r.compare r.same_single x.numbers y) c.one_if-certain.result same in
+    let more = at_most_one (r.compare r.meets x.numbers y) c.one_if-possible.result meets in
+    record {
+      fit = on.fit;
+      defined = rw c.is_some-defined.ensures (sym (on.defined l.defined) ∙ l.invariant.defined);
+      undefined = sym (on.undefined l.undefined) ∙ l.invariant.undefined;
+      few = omega (arith, few, l.invariant.few);
+      more = omega (arith, more, l.invariant.more);
+      certain = counted_one (r.compare r.same_single x.numbers y) l.certain c.one_if-certain.result _ _ same (on.many (λ o. r.compare r.same_single o y)) ∙ l.invariant.certain;
+      possible = counted_one (r.compare r.meets x.numbers y) l.possible c.one_if-possible.result _ _ meets (on.many (λ o. r.compare r.meets o y)) ∙ l.invariant.possible;
+    }
+
+pub all_on-loop-part-preserved : goal.all_on-loop-part-preserved
+all_on-loop-part-preserved t c =
+    let l = c.loop-part in
+    let on = truths_on c.args.sets.now _ _ c.part-item.result c.truths_on-x.result (drop_here c.args.parts.now l.part-index c.part-item.result (omega arith) c.part-item.is) c.truths_on-x.ensures l.invariant.fit in
+    record { fit = on.fit; yes = sym (on.all_yes l.yes) ∙ l.invariant.yes; no = sym (on.any_no l.no) ∙ l.invariant.no }
+
+pub any_on-loop-part-preserved : goal.any_on-loop-part-preserved
+any_on-loop-part-preserved t c =
+    let l = c.loop-part in
+    let on = truths_on c.args.sets.now _ _ c.part-item.result c.truths_on-x.result (drop_here c.args.parts.now l.part-index c.part-item.result (omega arith) c.part-item.is) c.truths_on-x.ensures l.invariant.fit in
+    record { fit = on.fit; yes = sym (on.any_yes l.yes) ∙ l.invariant.yes; no = sym (on.all_no l.no) ∙ l.invariant.no }

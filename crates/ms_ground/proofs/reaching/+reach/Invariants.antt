@@ -1,0 +1,56 @@
+use Rattle.std.proofs.Common.{◌≡◌, ◌+◌, ◌≤◌, true, ◌&&◌, ◌||◌, Some, map, drop}
+use Rattle.std.specs.Prelude.{pos}
+use Rattle.ms_num.specs.Span.{add_span, point, join_some}
+use Rattle.ms_ground.specs.Value.{how_many}
+use Rattle.ms_ground.specs.Reach.{reach, folded, any_undefined, all_yes, any_no, any_yes, all_no, all_some, extreme, joined, reached_undefined, compare, same_single, meets}
+use Rattle.ms_ground.specs.Access.{reaches}
+use Rattle.ms_ground.specs.Extreme.{extreme_span, onward_on}
+use Rattle.ms_ground.specs.Fit.{numbers, truths, sums_fit, checked}
+use Rattle.ms_ground.specs.declared.tree.Reach.{Reach}
+use Rattle.ms_ground.proofs.reaching.+reach.Given as goal
+
+abbrev pub invariant-sum_on-loop-part : goal.invariant-sum_on-loop-part
+invariant-sum_on-loop-part l = record {
+  fit : numbers (map (checked l.sets) (drop l.part-index l.parts)) ≡ true;
+  narrow : sums_fit l.total (map (reach l.sets) (drop l.part-index l.parts)) ≡ true;
+  rest : folded add_span l.total (map (reach l.sets) (drop l.part-index l.parts)) ≡ folded add_span (Some (point (pos 0))) (map (reach l.sets) l.parts);
+  undefined : (l.undefined || any_undefined (map (reach l.sets) (drop l.part-index l.parts))) ≡ any_undefined (map (reach l.sets) l.parts);
+}
+
+abbrev pub invariant-extreme_on-loop-part : goal.invariant-extreme_on-loop-part
+invariant-extreme_on-loop-part l = record {
+  fit : numbers (map (checked l.sets) (drop l.part-index l.parts)) ≡ true;
+  rest : onward_on (extreme_span l.which) l.best (map (reach l.sets) (drop l.part-index l.parts)) ≡ extreme (extreme_span l.which) (map (reach l.sets) l.parts);
+}
+
+abbrev pub invariant-selected_on-loop-place : goal.invariant-selected_on-loop-place
+invariant-selected_on-loop-place l = record {
+  fit : numbers (map (checked l.sets) (drop l.place l.parts)) ≡ true;
+  numbers : join_some l.so_far.numbers (joined (reaches l.access) l.place (map (reach l.sets) (drop l.place l.parts))) ≡ joined (reaches l.access) 0 (map (reach l.sets) l.parts);
+  undefined : (l.so_far.undefined || reached_undefined (reaches l.access) l.place (map (reach l.sets) (drop l.place l.parts))) ≡ (l.fn.none || reached_undefined (reaches l.access) 0 (map (reach l.sets) l.parts));
+}
+
+abbrev pub invariant-count_on-loop-part : goal.invariant-count_on-loop-part
+invariant-count_on-loop-part l = record {
+  fit : numbers (map (checked l.sets) (drop l.part-index l.parts)) ≡ true;
+  defined : (l.defined && all_some (map (reach l.sets) (drop l.part-index l.parts))) ≡ all_some (map (reach l.sets) l.parts);
+  undefined : (l.undefined || any_undefined (map (reach l.sets) (drop l.part-index l.parts))) ≡ (l.fn.y.undefined || any_undefined (map (reach l.sets) l.parts));
+  few : l.certain ≤ l.part-index;
+  more : l.possible ≤ l.part-index;
+  certain : l.certain + how_many (λ (x : Reach). compare same_single x.numbers l.fn.y.numbers) (map (reach l.sets) (drop l.part-index l.parts)) ≡ how_many (λ (x : Reach). compare same_single x.numbers l.fn.y.numbers) (map (reach l.sets) l.parts);
+  possible : l.possible + how_many (λ (x : Reach). compare meets x.numbers l.fn.y.numbers) (map (reach l.sets) (drop l.part-index l.parts)) ≡ how_many (λ (x : Reach). compare meets x.numbers l.fn.y.numbers) (map (reach l.sets) l.parts);
+}
+
+abbrev pub invariant-all_on-loop-part : goal.invariant-all_on-loop-part
+invariant-all_on-loop-part l = record {
+  fit : truths (map (checked l.sets) (drop l.part-index l.parts)) ≡ true;
+  yes : (l.yes && all_yes (map (reach l.sets) (drop l.part-index l.parts))) ≡ all_yes (map (reach l.sets) l.parts);
+  no : (l.no || any_no (map (reach l.sets) (drop l.part-index l.parts))) ≡ any_no (map (reach l.sets) l.parts);
+}
+
+abbrev pub invariant-any_on-loop-part : goal.invariant-any_on-loop-part
+invariant-any_on-loop-part l = record {
+  fit : truths (map (checked l.sets) (drop l.part-index l.parts)) ≡ true;
+  yes : (l.yes || any_yes (map (reach l.sets) (drop l.part-index l.parts))) ≡ any_yes (map (reach l.sets) l.parts);
+  no : (l.no && all_no (map (reach l.sets) (drop l.part-index l.parts))) ≡ all_no (map (reach l.sets) l.parts);
+}
