@@ -1,0 +1,15 @@
+use Rattle.std.proofs.Common.{ap, ◌∙◌, subst}
+use Rattle.ms_ground.specs.declared.branching.ValueChoice.TheVariants.{Least, Greatest, LowerHalf}
+use Rattle.ms_session.specs.Sets.{IsCut, IsMiddle, set_of}
+use Rattle.ms_session.specs.Branchings.{is_left}
+use Rattle.ms_session.proofs.RangeSets.{if_both, read_after, read_lo, read_hi, left_least, left_greatest, left_half}
+use Rattle.ms_session.proofs.cuts.values_left.Goals as goal
+
+pub returns-in-Least : goal.returns-in-Least
+returns-in-Least c = rw c.in-Least.is (if_both c.without.result _ _ (λ part. IsCut (is_left Least (set_of c.args.set.now)) (set_of c.args.set.now) (set_of part)) c.without.ensures.members c.without.ensures.proper (λ t m r. left_least (set_of c.args.set.now) t _ c.ends-whole.ensures.proper c.requires.open (read_lo c.ends-whole.result c.lo.result c.lo.ensures.within c.lo.ensures.value ∙ ap (λ iv. iv.lo) c.ends-whole.ensures.value) r m))
+
+pub returns-in-Greatest : goal.returns-in-Greatest
+returns-in-Greatest c = rw c.in-Greatest.is (if_both c.without-in-Greatest.result _ _ (λ part. IsCut (is_left Greatest (set_of c.args.set.now)) (set_of c.args.set.now) (set_of part)) c.without-in-Greatest.ensures.members c.without-in-Greatest.ensures.proper (λ t m r. left_greatest (set_of c.args.set.now) t _ c.ends-whole.ensures.proper c.requires.open (read_hi c.ends-whole.result c.hi.result c.hi.ensures.within c.hi.ensures.value ∙ ap (λ iv. iv.hi) c.ends-whole.ensures.value) r m))
+
+pub returns-in-LowerHalf : goal.returns-in-LowerHalf
+returns-in-LowerHalf c = rw c.in-LowerHalf.is (if_both c.at_least.result _ _ (λ part. IsCut (is_left LowerHalf (set_of c.args.set.now)) (set_of c.args.set.now) (set_of part)) c.at_least.ensures.members c.at_least.ensures.proper (λ t m r. left_half (set_of c.args.set.now) t c.middle.result _ c.ends-whole.ensures.proper c.requires.open (subst (λ iv. IsMiddle iv.lo iv.hi c.middle.result) c.ends-whole.ensures.value c.middle.ensures) (read_after c.ends-whole.result c.middle.result c.ends-whole.ensures.interval c.middle.ensures) r m))

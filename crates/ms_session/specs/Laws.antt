@@ -1,0 +1,66 @@
+-- What holds of scopes and of `next`, over the definitions alone.
+use Rattle.std.specs.Prelude.{◌≡◌, ◌≢◌, ◌⊎◌, ◌+◌, ◌*◌, ◌<◌, ◌≤◌, List, [], length, Option, All}
+use Rattle.ms_ground.specs.declared.tree.Ground.{Ground}
+use Rattle.ms_ground.specs.declared.branching.Branching.{Branching}
+use Rattle.ms_session.specs.declared.budget.Frame.{Frame}
+use Rattle.ms_session.specs.declared.session.Step.{Step}
+use Rattle.ms_session.specs.declared.session.Step.TheVariants.{Found, NoneLeft, Spent}
+use Rattle.ms_session.specs.Boxes.{Each, IsGiven, Assignment, Box, InBox, box_size}
+use Rattle.ms_session.specs.Branchings.{IsOrdered, Before, compared}
+use Rattle.ms_session.specs.Scopes.{Scope, Seen, Meets, IsConstraint, Node, noded, Next, IsFresh, Enters, Leaves, posted, Steps}
+use Rattle.ms_session.specs.Valid.{IsValid, IsValidSession, IsDeclared}
+
+-- a node keeps a scope valid, its answer being given
+abbrev pub NodesKeepValid : Type 0
+NodesKeepValid = (sets : Box) (br : Branching) (sc : Scope) (answer : Option Assignment) (fs : List Box) → IsValid sets br sc → Node sets br sc.cons sc.frontier answer fs → IsValid sets br (noded sc fs answer)
+
+abbrev pub NextKeepsValid : Type 0
+NextKeepsValid = (sets : Box) (br : Branching) (sc sc' : Scope) (fr fr' : List Frame) (step : Step) → IsValid sets br sc → Next sets br sc fr step sc' fr' → IsValid sets br sc'
+
+-- in the whole life of a scope at most twice as many nodes are spent as there are assignments
+abbrev pub FewNodes : Type 0
+FewNodes = (sets : Box) (br : Branching) (sc : Scope) → IsValid sets br sc → sc.spent ≤ 2 * box_size sets
+
+-- the frame has as many nodes left as a scope may still take
+abbrev pub HasEnough : Box → Scope → Frame → Type 0
+HasEnough sets sc f = 2 * box_size sets ≤ sc.spent + f.left
+
+-- where each frame has, `next` is never cut
+abbrev pub LargeFramesNeverCut : Type 0
+LargeFramesNeverCut = (sets : Box) (br : Branching) (sc sc' : Scope) (fr fr' : List Frame) (step : Step) → IsValid sets br sc → Each (HasEnough sets sc) fr → Next sets br sc fr step sc' fr' → step ≢ Spent
+
+-- p is an assignment that meets the constraints and was not given; under an ordered branching it is the least
+pub record IsNewSolution (sets : Box) (br : Branching) (sc : Scope) (p : Assignment) : Type 0 where
+  pub assigned : InBox p sets
+  pub meets : Meets sc.cons p
+  pub new : IsGiven sc.given p → ⊥
+  pub least : IsOrdered br → (q : Assignment) → InBox q sets → Meets sc.cons q → (IsGiven sc.given q → ⊥) → (q ≡ p) ⊎ Before (compared br (length sets)) p q
+
+-- every assignment that meets the constraints was given
+abbrev pub AllGiven : Box → Scope → Type 0
+AllGiven sets sc = (p : Assignment) → InBox p sets → Meets sc.cons p → IsGiven sc.given p
+
+-- what an answer of `next` says of solutions
+abbrev pub BySolutions : Box → Branching → Scope → Step → Type 0
+BySolutions sets br sc (Found p) = IsNewSolution sets br sc p
+BySolutions sets br sc NoneLeft = AllGiven sets sc
+BySolutions sets br sc Spent = Unit {0}
+
+abbrev pub NextIsBySolutions : Type 0
+NextIsBySolutions = (sets : Box) (br : Branching) (sc sc' : Scope) (fr fr' : List Frame) (step : Step) → IsValid sets br sc → Next sets br sc fr step sc' fr' → BySolutions sets br sc step
+
+-- a session that begins is valid, and each call keeps it so
+abbrev pub OpeningIsValid : Type 0
+OpeningIsValid = (s : Seen) → Each IsDeclared s.sets → All (IsConstraint s.sets) s.scope.cons → IsFresh s.sets s.scope.cons s.scope → s.parents ≡ [] → IsValidSession s
+
+abbrev pub EnteringKeepsValid : Type 0
+EnteringKeepsValid = (old new : Seen) → IsValidSession old → length old.parents + 1 < 200 → Enters old new → IsValidSession new
+
+abbrev pub LeavingKeepsValid : Type 0
+LeavingKeepsValid = (old new : Seen) → IsValidSession old → Leaves old new → IsValidSession new
+
+abbrev pub PostingKeepsValid : Type 0
+PostingKeepsValid = (s : Seen) (g : Ground) → IsValidSession s → IsConstraint s.sets g → IsValidSession (posted s g)
+
+abbrev pub SteppingKeepsValid : Type 0
+SteppingKeepsValid = (old new : Seen) (fr fr' : List Frame) (step : Step) → IsValidSession old → Steps old fr step new fr' → IsValidSession new

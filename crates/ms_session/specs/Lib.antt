@@ -1,0 +1,7 @@
+pub mod Frames
+pub mod Sets
+pub mod Boxes
+pub mod Branchings
+pub mod Scopes
+pub mod Valid
+pub mod Laws

@@ -1,0 +1,48 @@
+-- What holds of every scope and every session that can be reached.
+use Rattle.std.specs.Prelude.{◌≡◌, ◌⊎◌, ◌+◌, ◌*◌, ◌≤◌, true, false, ℤ, List, [], ◌∷◌, ◌++◌, length, All}
+use Rattle.ms_ground.specs.declared.tree.Ground.{Ground}
+use Rattle.ms_ground.specs.declared.branching.Branching.{Branching}
+use Rattle.ms_session.specs.Sets.{Set, IsSet}
+use Rattle.ms_session.specs.Boxes.{Each, EachPair, IsGiven, Assignment, Box, InBox, InSome, IsBox, Disjoint, box_size, frontier_nodes}
+use Rattle.ms_session.specs.Branchings.{IsOrdered, Before, compared}
+use Rattle.ms_session.specs.Scopes.{Scope, Seen, Meets, IsConstraint}
+
+-- a declared set has both its ends, or no number at all
+abbrev pub IsDeclared : Set → Type 0
+IsDeclared s = IsSet s ⊎ ((z : ℤ) → s.has z ≡ false)
+
+-- each assignment of the first box comes before each of the second
+abbrev pub AllBefore : Branching → Box → Box → Type 0
+AllBefore br b c = (p q : Assignment) → InBox p b → InBox q c → Before (compared br (length b)) p q
+
+pub record IsValid (sets : Box) (br : Branching) (sc : Scope) : Type 0 where
+  -- each constraint is fit for the declared sets
+  pub fit : All (IsConstraint sets) sc.cons
+  -- the boxes are not empty and lie in the declared sets
+  pub boxes : Each (IsBox sets) sc.frontier
+  -- they share no assignment with each other, nor with those given
+  pub apart : EachPair Disjoint sc.frontier
+  pub new : (p : Assignment) → IsGiven sc.given p → InSome p sc.frontier → ⊥
+  -- what meets the constraints was given, or is still to be found
+  pub covers : (p : Assignment) → InBox p sets → Meets sc.cons p → IsGiven sc.given p ⊎ InSome p sc.frontier
+  -- what was spent, with what the boxes may take, is at most twice the number of all assignments
+  pub bounded : sc.spent + frontier_nodes sc.frontier ≤ 2 * box_size sets
+  pub closed : sc.closed ≡ true → sc.frontier ≡ []
+  pub given : (p : Assignment) → IsGiven sc.given p → InBox p sets
+  -- under an ordered branching the boxes stand in order
+  pub in_order : IsOrdered br → EachPair (AllBefore br) sc.frontier
+
+-- the constraints of each scope begin with those of the one below it
+pub record Extends (child parent : Scope) : Type 0 where
+  pub added : List Ground
+  pub is : child.cons ≡ parent.cons ++ added
+
+abbrev pub Nested : Scope → List Scope → Type 0
+Nested sc [] = Unit {0}
+Nested sc (parent ∷ below) = Extends sc parent × Nested parent below
+
+pub record IsValidSession (s : Seen) : Type 0 where
+  pub declared : Each IsDeclared s.sets
+  pub scopes : Each (IsValid s.sets s.branching) (s.scope ∷ s.parents)
+  pub nested : Nested s.scope s.parents
+  pub depth : length s.parents + 1 ≤ 200
