@@ -1,0 +1,7 @@
+pub mod Answer
+pub mod Exit
+pub mod Reads
+pub mod Refusal
+pub mod Search
+pub mod Solution
+pub mod Text

@@ -1,0 +1,48 @@
+ghost use Rattle.std.specs.Prelude.{◌≡◌};
+ghost use Rattle.ms_top.specs.Exit.{exit_code};
+
+use ms_base::{Closing, FileNo, Limit};
+use ms_syntax::{LexKind, Place};
+
+/// Why an input is not accepted.
+#[derive(Clone, Copy, Debug, PartialEq, Eq)]
+pub enum Fault {
+    /// The file has more than 1048576 bytes.
+    LongFile(FileNo),
+    /// The first thing in the bytes that no token can take.
+    Lex(Place, LexKind),
+    /// The model is not of the plain form, which is all that is built yet.
+    Form(FileNo),
+}
+
+/// How a run of the program ended.
+#[derive(Clone, Copy, Debug, PartialEq, Eq)]
+pub enum Status {
+    /// The run ended, with the first limit that was reached.
+    Done(Closing, Option<Limit>),
+    /// The words after the program's name are not those that are wanted.
+    Usage,
+    /// A file could not be read.
+    ReadFault,
+    /// The input is not accepted, and nothing was written.
+    Refused(Fault),
+    /// The output could not be written; a prefix of it stands.
+    WriteFault,
+    NoMemory,
+}
+
+impl Status {
+    /// The number that the program ends with.
+    pub fn code(self) -> u8
+        ensures { result ≡ exit_code self }
+    {
+        match self {
+            Status::Done(_, _) => 0,
+            Status::Refused(_) => 1,
+            Status::Usage => 2,
+            Status::ReadFault => 3,
+            Status::WriteFault => 4,
+            Status::NoMemory => 5,
+        }
+    }
+}

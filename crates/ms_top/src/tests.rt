@@ -1,0 +1,285 @@
+//! The program over files and sinks in memory.
+
+use crate::{Fault, Status, run};
+use ms_base::Closing;
+use ms_io::{MemFiles, MemSink, Sink};
+use ms_syntax::{LexKind, Place};
+use std::alloc::{AllocError, Global};
+use std::process::Abort;
+use std::test::Fail;
+
+const PLAIN: Status = Status::Done(Closing::Plain, None);
+
+const UNSATISFIABLE: Status = Status::Done(Closing::Unsatisfiable, None);
+
+const FORM: Status = Status::Refused(Fault::Form(0));
+
+fn lex(line: u32, col: u32, kind: LexKind) -> Status {
+    Status::Refused(Fault::Lex(Place { file: 0, line, col }, kind))
+}
+
+fn words(alloc: Global, list: &[&str]) -> Result<Vec<String>, AllocError> {
+    let mut words = Vec::new(alloc);
+    for word in list {
+        words.push(String::from_str(alloc, *word)?)?;
+    }
+    Ok(words)
+}
+
+/// The program's answer for the bytes of a model.
+fn answers(
+    rt: &impl Abort,
+    alloc: Global,
+    model: &[u8],
+    status: Status,
+    out: &[u8],
+    err: &[u8],
+) -> Result<(), AllocError> {
+    let mut files = MemFiles::new(alloc);
+    files.hold("m.mzn", model)?;
+    // One put writes the answer, and one says what is wrong: the put after it is the first that is not made.
+    let mut written = MemSink::new(alloc);
+    written.fail(u64::from(!out.is_empty()), 0)?;
+    let mut said = MemSink::new(alloc);
+    said.fail(u64::from(!err.is_empty()), 0)?;
+    let words = words(alloc, &["minisearch", "m.mzn"])?;
+    let answer = run(alloc, &words, &mut files, &mut written, &mut said);
+    assert_eq!(rt; answer, status);
+    assert_eq!(rt; answer.code(), u8::from(!err.is_empty()));
+    assert_eq!(rt; written.bytes(), out);
+    assert_eq!(rt; said.bytes(), err);
+    assert!(rt; written.put(b"more").is_err());
+    assert!(rt; said.put(b"more").is_err());
+    Ok(())
+}
+
+#[test]
+fn models_are_answered(rt: HostRuntime) -> Result<(), Fail> {
+    let alloc = rt.alloc();
+    let nothing = b"".as_slice();
+    let separator = b"----------\n".as_slice();
+    let unsatisfiable = b"=====UNSATISFIABLE=====\n".as_slice();
+    let form = b"m.mzn: not built yet\n".as_slice();
+    let rows = [
+        (
+            b"var 1..3: x; var 1..3: y; constraint x + y = 4; constraint x < y; solve satisfy;".as_slice(),
+            PLAIN,
+            b"x = 1;\ny = 3;\n----------\n".as_slice(),
+            nothing,
+        ),
+        (
+            b"var 1..2: x; constraint x < x; solve satisfy;",
+            UNSATISFIABLE,
+            unsatisfiable,
+            nothing,
+        ),
+        (
+            b"var -1..1: a;var 0 .. 2:b;constraint a+b+1>=-1+4;constraint a!=b ; solve satisfy;",
+            PLAIN,
+            b"a = 0;\nb = 2;\n----------\n",
+            nothing,
+        ),
+        (b"solve satisfy", PLAIN, separator, nothing),
+        (
+            b"% one\r\nsolve /* two */ satisfy;\r\n",
+            PLAIN,
+            separator,
+            nothing,
+        ),
+        (
+            b"var 1..0: x; solve satisfy;",
+            UNSATISFIABLE,
+            unsatisfiable,
+            nothing,
+        ),
+        (
+            b"var 2..9: x; constraint x <= 3; constraint x > 2; constraint x == 3; solve satisfy;",
+            PLAIN,
+            b"x = 3;\n----------\n",
+            nothing,
+        ),
+        (
+            b"var -1000000..0: x; solve satisfy;",
+            PLAIN,
+            b"x = -1000000;\n----------\n",
+            nothing,
+        ),
+        (b"var -1000001..0: x; solve satisfy;", FORM, nothing, form),
+        (b"", FORM, nothing, form),
+        (b" \t\r\n", FORM, nothing, form),
+        (b"var 1..3 x;", FORM, nothing, form),
+        (
+            b"var 1..2: x; var 1..2: x; solve satisfy;",
+            FORM,
+            nothing,
+            form,
+        ),
+        (b"constraint y > 0; solve satisfy;", FORM, nothing, form),
+        (
+            b"var 1..3: x; constraint x<-1; solve satisfy;",
+            FORM,
+            nothing,
+            form,
+        ),
+        (b"varx 1..3: x; solve satisfy;", FORM, nothing, form),
+        (b"var 1..: x; solve satisfy;", FORM, nothing, form),
+        (b"solve satisfy;;", FORM, nothing, form),
+        (
+            b"solve satisfy;\n\xff",
+            lex(2, 1, LexKind::BadByte),
+            nothing,
+            b"m.mzn:2:1: unexpected byte\n",
+        ),
+        (
+            b"\"ab",
+            lex(1, 1, LexKind::OpenText),
+            nothing,
+            b"m.mzn:1:1: text is not closed\n",
+        ),
+        (
+            b" /* a",
+            lex(1, 2, LexKind::OpenComment),
+            nothing,
+            b"m.mzn:1:2: comment is not closed\n",
+        ),
+        (
+            b"9223372036854775808",
+            lex(1, 1, LexKind::BigNumber),
+            nothing,
+            b"m.mzn:1:1: number too large\n",
+        ),
+    ];
+    for (model, status, out, err) in rows {
+        answers(&rt, alloc, model, status, out, err)?;
+    }
+    Ok(())
+}
+
+/// The text, so many times, and then an end.
+fn repeated(alloc: Global, text: &[u8], times: usize, end: &[u8]) -> Result<Vec<u8>, AllocError> {
+    let mut bytes = Vec::new(alloc);
+    for _ in 0..times {
+        bytes.extend_from_slice(text)?;
+    }
+    bytes.extend_from_slice(end)?;
+    Ok(bytes)
+}
+
+/// So many declarations, of the names `a`, `b` and on.
+fn declared(alloc: Global, names: &[u8]) -> Result<Vec<u8>, AllocError> {
+    let mut bytes = Vec::new(alloc);
+    for name in names {
+        bytes.extend_from_slice(b"var 0..1: ")?;
+        bytes.push(*name)?;
+        bytes.extend_from_slice(b";")?;
+    }
+    bytes.extend_from_slice(b"solve satisfy;")?;
+    Ok(bytes)
+}
+
+#[test]
+fn limits_are_kept(rt: HostRuntime) -> Result<(), Fail> {
+    let alloc = rt.alloc();
+    let form = b"m.mzn: not built yet\n".as_slice();
+    let long = Status::Refused(Fault::LongFile(0));
+    let long_text = b"m.mzn: longer than 1048576 bytes\n".as_slice();
+
+    // The longest file, and one byte more; the same of a file that is not of the form.
+    let longest = repeated(alloc, b" ", 1048562, b"solve satisfy;")?;
+    answers(&rt, alloc, &longest, PLAIN, b"----------\n", b"")?;
+    let longer = repeated(alloc, b" ", 1048563, b"solve satisfy;")?;
+    answers(&rt, alloc, &longer, long, b"", long_text)?;
+    let other = repeated(alloc, b";", 1048576, b"")?;
+    answers(&rt, alloc, &other, FORM, b"", form)?;
+
+    // Eight declarations, and nine.
+    let zeros = b"a = 0;\nb = 0;\nc = 0;\nd = 0;\ne = 0;\nf = 0;\ng = 0;\nh = 0;\n----------\n";
+    answers(
+        &rt,
+        alloc,
+        &declared(alloc, b"abcdefgh")?,
+        PLAIN,
+        zeros,
+        b"",
+    )?;
+    answers(&rt, alloc, &declared(alloc, b"abcdefghi")?, FORM, b"", form)?;
+
+    // A hundred terms, and one more.
+    let end = b"0 = 0; solve satisfy;".as_slice();
+    let terms = repeated(alloc, b"0 + ", 99, end)?;
+    let mut hundred = Vec::from_slice(alloc, b"constraint ")?;
+    hundred.extend_from_slice(&terms)?;
+    answers(&rt, alloc, &hundred, PLAIN, b"----------\n", b"")?;
+    let mut more = Vec::from_slice(alloc, b"constraint 0 + ")?;
+    more.extend_from_slice(&terms)?;
+    answers(&rt, alloc, &more, FORM, b"", form)?;
+
+    // The greatest number, and one more.
+    answers(
+        &rt,
+        alloc,
+        b"var 0..1000000: x; constraint x >= 1000000; solve satisfy;",
+        PLAIN,
+        b"x = 1000000;\n----------\n",
+        b"",
+    )?;
+    answers(
+        &rt,
+        alloc,
+        b"var 0..1000001: x; solve satisfy;",
+        FORM,
+        b"",
+        form,
+    )?;
+    Ok(())
+}
+
+#[test]
+fn faults_are_told(rt: HostRuntime) -> Result<(), Fail> {
+    let alloc = rt.alloc();
+    let model = b"var 1..2: x; solve satisfy;".as_slice();
+
+    // The words have to be two; nothing is read otherwise.
+    for list in [
+        ["minisearch"].as_slice(),
+        ["minisearch", "m.mzn", "d.dzn"].as_slice(),
+    ] {
+        let mut files = MemFiles::new(alloc);
+        files.hold("m.mzn", model)?;
+        let mut written = MemSink::new(alloc);
+        let mut said = MemSink::new(alloc);
+        let words = words(alloc, list)?;
+        let answer = run(alloc, &words, &mut files, &mut written, &mut said);
+        assert_eq!(rt; answer, Status::Usage);
+        assert_eq!(rt; answer.code(), 2);
+        assert_eq!(rt; written.bytes(), b"".as_slice());
+        assert_eq!(rt; said.bytes(), b"one model file is wanted\n".as_slice());
+    }
+
+    // A file that is not there, and one whose read fails.
+    let mut files = MemFiles::new(alloc);
+    files.hold("m.mzn", model)?;
+    files.fail(1)?;
+    for file in ["other.mzn", "m.mzn"] {
+        let mut written = MemSink::new(alloc);
+        let mut said = MemSink::new(alloc);
+        let words = words(alloc, &["minisearch", file])?;
+        let answer = run(alloc, &words, &mut files, &mut written, &mut said);
+        assert_eq!(rt; answer, Status::ReadFault);
+        assert_eq!(rt; written.bytes(), b"".as_slice());
+        assert_eq!(rt; said.bytes().len(), file.len() + 14);
+    }
+
+    // A put that fails after three bytes, and a fault text of which one byte is taken.
+    let mut written = MemSink::new(alloc);
+    written.fail(0, 3)?;
+    let mut said = MemSink::new(alloc);
+    said.fail(0, 1)?;
+    let words = words(alloc, &["minisearch", "m.mzn"])?;
+    let answer = run(alloc, &words, &mut files, &mut written, &mut said);
+    assert_eq!(rt; answer, Status::WriteFault);
+    assert_eq!(rt; answer.code(), 4);
+    assert_eq!(rt; written.bytes(), b"x =".as_slice());
+    assert_eq!(rt; said.bytes(), b"c".as_slice());
+    Ok(())
+}
