@@ -2,7 +2,8 @@
 use Rattle.std.proofs.Common.{◌≡◌, ℕ, ◌+◌, ◌<◌, ◌≤◌, List, [], ◌∷◌, Bool, true, false, not, ◌&&◌, ◌||◌, Option, Some, None, map, length, drop, get_or, IfSome, zero, suc, add-one, refl, sym, ap, ◌∙◌, subst, arith}
 use Rattle.std.proofs.lemmas.Bool.{false≢true}
 use Rattle.std.proofs.lemmas.Int.{ints, int_max_is, int_min_is}
-use Rattle.std.specs.Prelude.{ℤ, pos, negsuc, ◌≤ℤ◌, int_le, is_some, if◌then◌else◌, ◌^◌, ◌-◌}
+use Rattle.std.proofs.Math.ListN.{length-map}
+use Rattle.std.specs.Prelude.{ℤ, pos, negsuc, ◌≤ℤ◌, ◌/◌, int_le, is_some, if◌then◌else◌, ◌^◌, ◌-◌}
 use Rattle.std.specs.Int.{int_min, int_max}
 use Rattle.ms_num.specs.Span.{Span, IsInterval, Inside, join, join_some}
 use Rattle.ms_ground.specs.Value.{how_many}
@@ -117,6 +118,27 @@ place_passed b ys at k lt fit s t e h =
     let d : Ground = g.Num (pos 0) in
     let x = get_or ys k d in
     place_left b ys at k x lt (read_default ys k d x lt) fit s t e h
+
+-- ---- access by index, as what a tree may mean
+
+elem_fold : (b : List Span) (low : ℤ) (xs : List Ground) (i : Ground) → reach b (g.Elem low xs i) ≡ r.selected (r.is_reached low (reach b i).numbers) ((reach b i).undefined || r.leaves low (length (map (reach b) xs)) (reach b i).numbers) (map (reach b) xs)
+elem_fold b low xs i = search the_lemmas
+
+pub elem_reach : (b : List Span) (low : ℤ) (xs : List Ground) (i : Ground) → r.selected (r.is_reached low (reach b i).numbers) ((reach b i).undefined || r.leaves low (length xs) (reach b i).numbers) (map (reach b) xs) ≡ reach b (g.Elem low xs i)
+elem_reach b low xs i =
+    ap (λ n. r.selected (r.is_reached low (reach b i).numbers) ((reach b i).undefined || r.leaves low n (reach b i).numbers) (map (reach b) xs)) (sym (length-map xs (reach b))) ∙ sym (elem_fold b low xs i)
+
+elem2_fold : (b : List Span) (k l : ℤ) (w : ℕ) (xs : List Ground) (i j : Ground) → reach b (g.Elem2 k l w xs i j)
+    ≡ r.selected (r.is_reached2 k l w (length (map (reach b) xs)) (reach b i).numbers (reach b j).numbers)
+    ((reach b i).undefined || (reach b j).undefined || r.leaves k (length (map (reach b) xs) / w) (reach b i).numbers || r.leaves l w (reach b j).numbers) (map (reach b) xs)
+elem2_fold b k l w xs i j = search the_lemmas
+
+pub elem2_reach : (b : List Span) (k l : ℤ) (w : ℕ) (xs : List Ground) (i j : Ground) →
+    r.selected (r.is_reached2 k l w (length xs) (reach b i).numbers (reach b j).numbers) ((reach b i).undefined || (reach b j).undefined || r.leaves k (length xs / w) (reach b i).numbers || r.leaves l w (reach b j).numbers) (map (reach b) xs)
+    ≡ reach b (g.Elem2 k l w xs i j)
+elem2_reach b k l w xs i j =
+    ap (λ n. r.selected (r.is_reached2 k l w n (reach b i).numbers (reach b j).numbers) ((reach b i).undefined || (reach b j).undefined || r.leaves k (n / w) (reach b i).numbers || r.leaves l w (reach b j).numbers) (map (reach b) xs)) (sym (length-map xs (reach b)))
+    ∙ sym (elem2_fold b k l w xs i j)
 
 -- ---- the interval of a count
 

@@ -13,7 +13,7 @@ use Rattle.ms_ground.specs.Reach.{reach, reach_step, points, span_at}
 use Rattle.ms_ground.specs.Fit.{Checked, fit_rule, is_fit, is_numeric, numeric_layer, number, truth, numbers, truths}
 use Rattle.ms_ground.specs.declared.tree.Reach.{Reach}
 use Rattle.ms_ground.specs.declared.tree.Ground.{Ground, map-Ground}
-use Rattle.ms_ground.specs.declared.tree.Ground.TheOpen.{Ground-F, Num, Undef, Var, Add, Sub, Mul, Div, Mod, Neg, Abs, Sum, Least, Greatest, ToInt, Elem, Count, IteI, True, False, BVar, And, Or, Not, Iff, Imp, Xor, Eq, Ne, Lt, Le, IteB, In}
+use Rattle.ms_ground.specs.declared.tree.Ground.TheOpen.{Ground-F, Num, Undef, Var, Add, Sub, Mul, Div, Mod, Neg, Abs, Sum, Least, Greatest, ToInt, Elem, Elem2, Count, IteI, True, False, BVar, And, Or, Not, Iff, Imp, Xor, Eq, Ne, Lt, Le, IteB, In}
 use Rattle.ms_ground.specs.Fit.{checked}
 use Rattle.ms_ground.specs.Laws.{of_number, exact}
 use Rattle.ms_ground.proofs.Layers.{induct, twice, fit_roll, fold_at, layer_map, is_numeric_roll}
@@ -186,6 +186,9 @@ exact_step a (Greatest xs) h = ap (r.extreme max_span) (number_children xs (and_
 exact_step a (ToInt x) h = ap (λ p. reach_step (points a) (ToInt p)) (truth_child x (and_left _ _ h)) ∙ exact_to_int x.meaning.truth
 exact_step a (Elem low xs i) h =
     ap2 (λ rs (q : Reach). r.selected (r.is_reached low q.numbers) (q.undefined || r.leaves low (length rs) q.numbers) rs) (list xs i _ h) (beside xs i _ h) ∙ exact_elem low (map means xs) i.meaning.number
+exact_step a (Elem2 k l w xs i j) h =
+    ap3 (λ rs (p q : Reach). r.selected (r.is_reached2 k l w (length rs) p.numbers q.numbers) (p.undefined || q.undefined || r.leaves k (length rs / w) p.numbers || r.leaves l w q.numbers) rs) (list xs i _ (and_left (numbers (map check xs) && number (check i) && number (check j)) _ h)) (beside xs i _ (and_left (numbers (map check xs) && number (check i) && number (check j)) _ h)) (number_child j (and_right (numbers (map check xs) && number (check i)) (number (check j)) (and_left (numbers (map check xs) && number (check i) && number (check j)) _ h)))
+    ∙ exact_elem2 k l w (map means xs) i.meaning.number j.meaning.number
 exact_step a (Count xs y) h = ap2 r.counted (list xs y _ h) (beside xs y _ h) ∙ exact_counted (map means xs) y.meaning.number
 exact_step a (IteI c x y) h =
     ap3 r.either_number (condition c x y _ _ _ h) (number_child x (then_part c x y _ _ _ h)) (number_child y (else_part c x y _ _ _ h)) ∙ exact_either c.meaning.truth x.meaning.number y.meaning.number

@@ -118,6 +118,9 @@ module _ (b : List Span) where
   pub fit-Elem : (low : ℤ) (xs : List Ground) (i : Ground) → is_fit b (g.Elem low xs i) ≡ true → ListAnd b xs i
   fit-Elem low xs i h = list_and b xs i _ (at_layer _ (F.Elem low xs i) h (g.outs-Elem low xs i))
 
+  pub fit-Elem2 : (k : ℤ) (l : ℤ) (w : ℕ) (xs : List Ground) (i : Ground) (j : Ground) → is_fit b (g.Elem2 k l w xs i j) ≡ true → ListAndTwo b xs i j
+  fit-Elem2 k l w xs i j h = list_and_two b xs i j _ (at_layer _ (F.Elem2 k l w xs i j) h (g.outs-Elem2 k l w xs i j))
+
   pub fit-Count : (xs : List Ground) (y : Ground) → is_fit b (g.Count xs y) ≡ true → ListAnd b xs y
   fit-Count xs y h = list_and b xs y _ (at_layer _ (F.Count xs y) h (g.outs-Count xs y))
 
@@ -205,6 +208,7 @@ module _ (b : List Span) where
   narrow_fits (F.Greatest xs) h = h
   narrow_fits (F.ToInt x) h = h
   narrow_fits (F.Elem low xs i) h = h
+  narrow_fits (F.Elem2 k l w xs i j) h = h
   narrow_fits (F.Count xs y) h = h
   narrow_fits (F.IteI c x y) h = h
   narrow_fits F.True h = h

@@ -4,7 +4,7 @@ use Rattle.ms_num.specs.Span.{Span}
 use Rattle.ms_ground.specs.Fit.{Checked, fit_rule, fit_step, is_fit, is_numeric, checked_of, numeric_layer}
 use Rattle.ms_ground.specs.Fit.{checked}
 use Rattle.ms_ground.specs.declared.tree.Ground.{Ground, roll-Ground, map-Ground, ind-Ground, out-Ground, roll-out-Ground, para-roll-Ground, fold-Ground, fold-roll-Ground}
-use Rattle.ms_ground.specs.declared.tree.Ground.TheOpen.{Ground-F, Num, Undef, Var, Add, Sub, Mul, Div, Mod, Neg, Abs, Sum, Least, Greatest, ToInt, Elem, Count, IteI, True, False, BVar, And, Or, Not, Iff, Imp, Xor, Eq, Ne, Lt, Le, IteB, In}
+use Rattle.ms_ground.specs.declared.tree.Ground.TheOpen.{Ground-F, Num, Undef, Var, Add, Sub, Mul, Div, Mod, Neg, Abs, Sum, Least, Greatest, ToInt, Elem, Elem2, Count, IteI, True, False, BVar, And, Or, Not, Iff, Imp, Xor, Eq, Ne, Lt, Le, IteB, In}
 
 -- what holds of a node where it holds of its parts holds of each tree
 pub induct : (P : Ground → Type 0) → ((y : Ground-F ((g : Ground) × P g)) → P (roll-Ground (map-Ground ((g : Ground) × P g) Ground (λ e. e.0) y))) → (g : Ground) → P g
@@ -31,6 +31,7 @@ twice f g (Least xs) = ap Least (list_twice f g xs)
 twice f g (Greatest xs) = ap Greatest (list_twice f g xs)
 twice f g (ToInt x) = refl
 twice f g (Elem low xs i) = ap (λ ys. Elem low ys (g (f i))) (list_twice f g xs)
+twice f g (Elem2 k l w xs i j) = ap (λ ys. Elem2 k l w ys (g (f i)) (g (f j))) (list_twice f g xs)
 twice f g (Count xs y) = ap (λ ys. Count ys (g (f y))) (list_twice f g xs)
 twice f g (IteI c x y) = refl
 twice f g True = refl
@@ -73,6 +74,7 @@ layer_map f (Least xs) = refl
 layer_map f (Greatest xs) = refl
 layer_map f (ToInt x) = refl
 layer_map f (Elem low xs i) = refl
+layer_map f (Elem2 k l w xs i j) = refl
 layer_map f (Count xs y) = refl
 layer_map f (IteI c x y) = refl
 layer_map f True = refl

@@ -13,7 +13,7 @@ use Rattle.ms_ground.specs.Laws.{Fewer, Numbers, Less, Smaller, HasVariable, Lie
 use Rattle.ms_ground.specs.Fit.{Checked, fit_rule, sorted_step, narrow_step, sums_fit, fits, is_fit, is_numeric, numeric_layer, number, truth, numbers, truths, has_variable, checked, reach_of}
 use Rattle.ms_ground.specs.declared.tree.Reach.{Reach}
 use Rattle.ms_ground.specs.declared.tree.Ground.{Ground, roll-Ground, map-Ground}
-use Rattle.ms_ground.specs.declared.tree.Ground.TheOpen.{Ground-F, Num, Undef, Var, Add, Sub, Mul, Div, Mod, Neg, Abs, Sum, Least, Greatest, ToInt, Elem, Count, IteI, True, False, BVar, And, Or, Not, Iff, Imp, Xor, Eq, Ne, Lt, Le, IteB, In}
+use Rattle.ms_ground.specs.declared.tree.Ground.TheOpen.{Ground-F, Num, Undef, Var, Add, Sub, Mul, Div, Mod, Neg, Abs, Sum, Least, Greatest, ToInt, Elem, Elem2, Count, IteI, True, False, BVar, And, Or, Not, Iff, Imp, Xor, Eq, Ne, Lt, Le, IteB, In}
 use Rattle.ms_ground.proofs.Layers.{induct, twice, fit_roll, fold_at, layer_map, is_numeric_roll}
 use Rattle.ms_ground.proofs.Bools.{and_left, and_right, and_true, and_less, is_false, le_of, of_le}
 use Rattle.ms_ground.proofs.Exact.{reach_on_point}
@@ -91,6 +91,7 @@ sorted_keeps b b' len sm (Least xs) h = (numbers_keeps xs) h
 sorted_keeps b b' len sm (Greatest xs) h = (numbers_keeps xs) h
 sorted_keeps b b' len sm (ToInt x) h = (truth_keeps x) h
 sorted_keeps b b' len sm (Elem low xs i) h = (and_less (numbers (map large xs)) (number (large i)) (numbers (map small xs)) (number (small i)) (numbers_keeps xs) (number_keeps i)) h
+sorted_keeps b b' len sm (Elem2 k l w xs i j) h = (and_less (numbers (map large xs) && number (large i)) (number (large j)) (numbers (map small xs) && number (small i)) (number (small j)) (and_less (numbers (map large xs)) (number (large i)) (numbers (map small xs)) (number (small i)) (numbers_keeps xs) (number_keeps i)) (number_keeps j)) h
 sorted_keeps b b' len sm (Count xs y) h = (and_less (numbers (map large xs)) (number (large y)) (numbers (map small xs)) (number (small y)) (numbers_keeps xs) (number_keeps y)) h
 sorted_keeps b b' len sm (IteI c x y) h = (and_less (truth (large c) && number (large x)) (number (large y)) (truth (small c) && number (small x)) (number (small y)) (and_less (truth (large c)) (number (large x)) (truth (small c)) (number (small x)) (truth_keeps c) (number_keeps x)) (number_keeps y)) h
 sorted_keeps b b' len sm True h = refl
@@ -146,6 +147,7 @@ narrow_keeps b b' (Least xs) s l h = fits_fewer (reach_step b (map-Ground Child 
 narrow_keeps b b' (Greatest xs) s l h = fits_fewer (reach_step b (map-Ground Child Reach smalls (Greatest xs))).numbers (reach_step b' (map-Ground Child Reach larges (Greatest xs))).numbers l.numbers h
 narrow_keeps b b' (ToInt x) s l h = fits_fewer (reach_step b (map-Ground Child Reach smalls (ToInt x))).numbers (reach_step b' (map-Ground Child Reach larges (ToInt x))).numbers l.numbers h
 narrow_keeps b b' (Elem low xs i) s l h = fits_fewer (reach_step b (map-Ground Child Reach smalls (Elem low xs i))).numbers (reach_step b' (map-Ground Child Reach larges (Elem low xs i))).numbers l.numbers h
+narrow_keeps b b' (Elem2 k l w xs i j) s l' h = fits_fewer (reach_step b (map-Ground Child Reach smalls (Elem2 k l w xs i j))).numbers (reach_step b' (map-Ground Child Reach larges (Elem2 k l w xs i j))).numbers l'.numbers h
 narrow_keeps b b' (Count xs y) s l h = fits_fewer (reach_step b (map-Ground Child Reach smalls (Count xs y))).numbers (reach_step b' (map-Ground Child Reach larges (Count xs y))).numbers l.numbers h
 narrow_keeps b b' (IteI c x y) s l h = fits_fewer (reach_step b (map-Ground Child Reach smalls (IteI c x y))).numbers (reach_step b' (map-Ground Child Reach larges (IteI c x y))).numbers l.numbers h
 narrow_keeps b b' True s l h = refl

@@ -18,7 +18,7 @@ use Rattle.ms_ground.specs.Fit.{Checked, fit_rule, is_fit, is_numeric, numeric_l
 use Rattle.ms_ground.specs.Fit.{checked}
 use Rattle.ms_ground.specs.declared.tree.Reach.{Reach}
 use Rattle.ms_ground.specs.declared.tree.Ground.{Ground, roll-Ground, map-Ground}
-use Rattle.ms_ground.specs.declared.tree.Ground.TheOpen.{Ground-F, Num, Undef, Var, Add, Sub, Mul, Div, Mod, Neg, Abs, Sum, Least, Greatest, ToInt, Elem, Count, IteI, True, False, BVar, And, Or, Not, Iff, Imp, Xor, Eq, Ne, Lt, Le, IteB, In}
+use Rattle.ms_ground.specs.declared.tree.Ground.TheOpen.{Ground-F, Num, Undef, Var, Add, Sub, Mul, Div, Mod, Neg, Abs, Sum, Least, Greatest, ToInt, Elem, Elem2, Count, IteI, True, False, BVar, And, Or, Not, Iff, Imp, Xor, Eq, Ne, Lt, Le, IteB, In}
 use Rattle.ms_ground.proofs.Layers.{induct, twice, fit_roll, fold_at, layer_map, is_numeric_roll}
 use Rattle.ms_ground.proofs.Bools.{and_left, and_right, and_true, and_less, or_left, or_right, or_split, or_swap, or_less, or_false, not_grows, not_true, true_not, is_false, both_ways, le_of, of_le, lt_of, of_lt, not_le, not_lt, eq_of, of_eq}
 use Rattle.ms_ground.proofs.Fits.{variable}
@@ -771,6 +771,10 @@ less_step b b' sm (ToInt x) h =
     let t = truth_child x (and_left (truth (check x)) _ h) in
     record { some = refl; numbers = bits_inside x.small.yes x.small.no x.large.yes x.large.no t.some t.yes t.no; undefined = λ e. e }
 less_step b b' sm (Elem low xs i) h = let t = list_and xs i _ h in elem_less low (map smalls xs) (map larges xs) i.small i.large t.list t.beside
+less_step b b' sm (Elem2 k l w xs i j) h =
+    let ij = and_left (numbers (map check xs) && number (check i) && number (check j)) _ h in
+    let t = list_and xs i (number (check j)) ij in
+    elem2_less k l w (map smalls xs) (map larges xs) i.small i.large j.small j.large t.list t.beside (number_child j (and_right (numbers (map check xs) && number (check i)) (number (check j)) ij))
 less_step b b' sm (Count xs y) h = let t = list_and xs y _ h in counted_less (map smalls xs) (map larges xs) y.small y.large t.list t.beside
 less_step b b' sm (IteI c x y) h =
     let t = branches c (number (check x)) (number (check y)) _ h in

@@ -2,7 +2,8 @@
 use Rattle.std.proofs.Common.{◌≡◌, ℕ, ◌+◌, ◌<◌, ◌≤◌, List, [], ◌∷◌, Bool, true, false, not, ◌&&◌, ◌||◌, Option, Some, None, map, length, drop, get_or, IfSome, ◌^◌, zero, suc, add-one, refl, sym, ap, ◌∙◌, subst, arith, IsTrue}
 use Rattle.std.proofs.lemmas.Bool.{false≢true}
 use Rattle.std.proofs.lemmas.Int.{ints}
-use Rattle.std.specs.Prelude.{ℤ, pos, ◌+ℤ◌, ◌-ℤ◌, is_some, if◌then◌else◌}
+use Rattle.std.proofs.Math.ListN.{length-map}
+use Rattle.std.specs.Prelude.{ℤ, pos, ◌+ℤ◌, ◌-ℤ◌, ◌/◌, nat_lt, is_some, if◌then◌else◌}
 use Rattle.ms_num.specs.Numbers.{int_eq, sub_at}
 use Rattle.ms_num.specs.Span.{Span, point, is_within}
 use Rattle.ms_ground.specs.Value as v
@@ -98,6 +99,63 @@ many_below p (x ∷ xs) = one (p x) (many_below p xs)
 pub unselected : (low : ℤ) (k : ℕ) (ms : List Meaning) → v.selected (v.is_place low None) k ms ≡ None
 unselected low k [] = refl
 unselected low k (m ∷ ms) = unselected low (suc k) ms
+
+and_none : (b c : Bool) → (b && false && c) ≡ false
+and_none true c = refl
+and_none false c = refl
+
+pub unselected2 : (k l : ℤ) (w n : ℕ) (i j : Option ℤ) → None ≡ v.pair i j → (p : ℕ) (ms : List Meaning) → v.selected (v.is_place2 k l w n i j) p ms ≡ None
+unselected2 k l w n None j e p [] = refl
+unselected2 k l w n None j e p (m ∷ ms) = unselected2 k l w n None j e (suc p) ms
+unselected2 k l w n (Some y) None e p [] = refl
+unselected2 k l w n (Some y) None e p (m ∷ ms) =
+    ap (λ b. if b then m.number else v.selected (v.is_place2 k l w n (Some y) None) (suc p) ms) (and_none (int_eq y (k +ℤ pos (p / w))) (nat_lt (p / w) (n / w))) ∙ unselected2 k l w n (Some y) None e (suc p) ms
+unselected2 k l w n (Some y) (Some z) e p ms = absurd (no (y, z) e)
+  where
+    no : (x : ℤ × ℤ) → None ≡ Some x → ⊥
+    no x e = cc
+
+-- ---- access by index, as the value of a tree
+
+pub elem_value : (a : List ℤ) (low : ℤ) (xs : List Ground) (i : Ground) → v.selected (v.is_place low (value a i).number) 0 (map (value a) xs) ≡ (value a (g.Elem low xs i)).number
+elem_value a low xs i = sym (search the_lemmas)
+
+elem2_fold : (a : List ℤ) (k l : ℤ) (w : ℕ) (xs : List Ground) (i j : Ground) → (value a (g.Elem2 k l w xs i j)).number ≡ v.selected (v.is_place2 k l w (length (map (value a) xs)) (value a i).number (value a j).number) 0 (map (value a) xs)
+elem2_fold a k l w xs i j = search the_lemmas
+
+pub elem2_value : (a : List ℤ) (k l : ℤ) (w : ℕ) (xs : List Ground) (i j : Ground) (p q : Option ℤ) → v.pair p q ≡ v.pair (value a i).number (value a j).number →
+    v.selected (v.is_place2 k l w (length xs) p q) 0 (map (value a) xs) ≡ (value a (g.Elem2 k l w xs i j)).number
+elem2_value a k l w xs i j p q e =
+    same p q (value a i).number (value a j).number e
+    ∙ ap (λ n. v.selected (v.is_place2 k l w n (value a i).number (value a j).number) 0 (map (value a) xs)) (sym (length-map xs (value a)))
+    ∙ sym (elem2_fold a k l w xs i j)
+  where
+    no : (x : ℤ × ℤ) → None ≡ Some x → ⊥
+    no x e = cc
+
+    none : (m n : Option ℤ) → None ≡ v.pair m n → v.selected (v.is_place2 k l w (length xs) m n) 0 (map (value a) xs) ≡ None
+    none m n h = unselected2 k l w (length xs) m n h 0 (map (value a) xs)
+
+    one : (y z s t : ℤ) → ◌≡◌ {A = Option (ℤ × ℤ)} (Some (y, z)) (Some (s, t)) → v.selected (v.is_place2 k l w (length xs) (Some y) (Some z)) 0 (map (value a) xs) ≡ v.selected (v.is_place2 k l w (length xs) (Some s) (Some t)) 0 (map (value a) xs)
+    one y z s t h = ap (λ o. v.selected (v.is_place2 k l w (length xs) (v.image (λ r. Some r) (v.apply (λ u r. Some u) o)) (v.image (λ r. Some r) (v.apply (λ u r. Some r) o))) 0 (map (value a) xs)) h
+
+    same : (p q m n : Option ℤ) → v.pair p q ≡ v.pair m n → v.selected (v.is_place2 k l w (length xs) p q) 0 (map (value a) xs) ≡ v.selected (v.is_place2 k l w (length xs) m n) 0 (map (value a) xs)
+    same None q m n h = none None q refl ∙ sym (none m n h)
+    same (Some y) None m n h = none (Some y) None refl ∙ sym (none m n h)
+    same (Some y) (Some z) None n h = absurd (no (y, z) (sym h))
+    same (Some y) (Some z) (Some s) None h = absurd (no (y, z) (sym h))
+    same (Some y) (Some z) (Some s) (Some t) h = one y z s t h
+
+pub second_of_pair : (m n : Option ℤ) (p q : ℤ) → Some (p, q) ≡ v.pair m n → Some q ≡ n
+second_of_pair None n p q e = absurd (no (p, q) e)
+  where
+    no : (x : ℤ × ℤ) → Some x ≡ None → ⊥
+    no x e = cc
+second_of_pair (Some x) None p q e = absurd (no (p, q) e)
+  where
+    no : (x : ℤ × ℤ) → Some x ≡ None → ⊥
+    no x e = cc
+second_of_pair (Some x) (Some y) p q e = ap (λ o. v.image (λ z. Some z) (v.apply (λ s t. Some t) o)) e
 
 pub at_most_one : (b : Bool) (k : ℕ) → k ≡ (if b then 1 else 0) → k ≤ 1
 at_most_one true k e = omega (arith, e)

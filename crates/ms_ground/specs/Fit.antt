@@ -4,7 +4,7 @@ use Rattle.ms_num.specs.Span.{Span, point, is_narrow, add_span}
 use Rattle.ms_ground.specs.Reach.{reach, reach_step, both, span_at}
 use Rattle.ms_ground.specs.declared.tree.Reach.{Reach}
 use Rattle.ms_ground.specs.declared.tree.Ground.{Ground, fold-Ground, para-Ground, map-Ground}
-use Rattle.ms_ground.specs.declared.tree.Ground.TheOpen.{Ground-F, Num, Undef, Var, Add, Sub, Mul, Div, Mod, Neg, Abs, Sum, Least, Greatest, ToInt, Elem, Count, IteI, True, False, BVar, And, Or, Not, Iff, Imp, Xor, Eq, Ne, Lt, Le, IteB, In}
+use Rattle.ms_ground.specs.declared.tree.Ground.TheOpen.{Ground-F, Num, Undef, Var, Add, Sub, Mul, Div, Mod, Neg, Abs, Sum, Least, Greatest, ToInt, Elem, Elem2, Count, IteI, True, False, BVar, And, Or, Not, Iff, Imp, Xor, Eq, Ne, Lt, Le, IteB, In}
 
 abbrev pub numeric_layer : {X : Type 0} → Ground-F X → Bool
 numeric_layer (Num n) = true
@@ -22,6 +22,7 @@ numeric_layer (Least xs) = true
 numeric_layer (Greatest xs) = true
 numeric_layer (ToInt x) = true
 numeric_layer (Elem low xs i) = true
+numeric_layer (Elem2 k l w xs i j) = true
 numeric_layer (Count xs y) = true
 numeric_layer (IteI c x y) = true
 numeric_layer True = false
@@ -85,6 +86,7 @@ sorted_step b (Least xs) = numbers xs
 sorted_step b (Greatest xs) = numbers xs
 sorted_step b (ToInt x) = truth x
 sorted_step b (Elem low xs i) = numbers xs && number i
+sorted_step b (Elem2 k l w xs i j) = numbers xs && number i && number j
 sorted_step b (Count xs y) = numbers xs && number y
 sorted_step b (IteI c x y) = truth c && number x && number y
 sorted_step b True = true

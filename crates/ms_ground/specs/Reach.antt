@@ -7,7 +7,7 @@ use Rattle.ms_ground.specs.Value.{iff, imp, xor, how_many}
 use Rattle.ms_ground.specs.declared.tree.Reach.{Reach}
 use Rattle.ms_ground.specs.declared.tree.Hull.{Hull}
 use Rattle.ms_ground.specs.declared.tree.Ground.{Ground, fold-Ground}
-use Rattle.ms_ground.specs.declared.tree.Ground.TheOpen.{Ground-F, Num, Undef, Var, Add, Sub, Mul, Div, Mod, Neg, Abs, Sum, Least, Greatest, ToInt, Elem, Count, IteI, True, False, BVar, And, Or, Not, Iff, Imp, Xor, Eq, Ne, Lt, Le, IteB, In}
+use Rattle.ms_ground.specs.declared.tree.Ground.TheOpen.{Ground-F, Num, Undef, Var, Add, Sub, Mul, Div, Mod, Neg, Abs, Sum, Least, Greatest, ToInt, Elem, Elem2, Count, IteI, True, False, BVar, And, Or, Not, Iff, Imp, Xor, Eq, Ne, Lt, Le, IteB, In}
 
 -- the box of one assignment
 abbrev pub points : List ℤ → List Span
@@ -237,6 +237,8 @@ reach_step b (Least xs) = extreme min_span xs
 reach_step b (Greatest xs) = extreme max_span xs
 reach_step b (ToInt x) = numeric (Some (bits x.yes x.no)) false
 reach_step b (Elem low xs i) = selected (is_reached low i.numbers) (i.undefined || leaves low (length xs) i.numbers) xs
+reach_step b (Elem2 k l w xs i j) =
+    selected (is_reached2 k l w (length xs) i.numbers j.numbers) (i.undefined || j.undefined || leaves k (length xs / w) i.numbers || leaves l w j.numbers) xs
 reach_step b (Count xs y) = counted xs y
 reach_step b (IteI c x y) = either_number c x y
 reach_step b True = boolean true false

@@ -1,7 +1,7 @@
 -- How large a tree is.
 use Rattle.std.specs.Prelude.{ℕ, ◌+◌, max, List, [], ◌∷◌, length, sum, sum_by}
 use Rattle.ms_ground.specs.declared.tree.Ground.{Ground, fold-Ground}
-use Rattle.ms_ground.specs.declared.tree.Ground.TheOpen.{Ground-F, Num, Undef, Var, Add, Sub, Mul, Div, Mod, Neg, Abs, Sum, Least, Greatest, ToInt, Elem, Count, IteI, True, False, BVar, And, Or, Not, Iff, Imp, Xor, Eq, Ne, Lt, Le, IteB, In}
+use Rattle.ms_ground.specs.declared.tree.Ground.TheOpen.{Ground-F, Num, Undef, Var, Add, Sub, Mul, Div, Mod, Neg, Abs, Sum, Least, Greatest, ToInt, Elem, Elem2, Count, IteI, True, False, BVar, And, Or, Not, Iff, Imp, Xor, Eq, Ne, Lt, Le, IteB, In}
 
 abbrev pub size_step : Ground-F ℕ → ℕ
 size_step (Num n) = 1
@@ -19,6 +19,7 @@ size_step (Least xs) = 1 + sum xs
 size_step (Greatest xs) = 1 + sum xs
 size_step (ToInt x) = 1 + x
 size_step (Elem low xs i) = 1 + sum xs + i
+size_step (Elem2 k l w xs i j) = 1 + sum xs + i + j
 size_step (Count xs y) = 1 + sum xs + y
 size_step (IteI c x y) = 1 + c + x + y
 size_step True = 1
@@ -61,6 +62,7 @@ nesting_step (Least xs) = 1 + deepest xs
 nesting_step (Greatest xs) = 1 + deepest xs
 nesting_step (ToInt x) = 1 + x
 nesting_step (Elem low xs i) = 1 + max (deepest xs) (i)
+nesting_step (Elem2 k l w xs i j) = 1 + max (max (deepest xs) i) (j)
 nesting_step (Count xs y) = 1 + max (deepest xs) (y)
 nesting_step (IteI c x y) = 1 + max (max c x) (y)
 nesting_step True = 1

@@ -4,7 +4,7 @@ use Rattle.std.specs.List.{list_any, list_all}
 use Rattle.ms_num.specs.Numbers.{int_eq, neg_at, abs_at, add_at, sub_at, mul_at, div_at, mod_at, min_at, max_at}
 use Rattle.ms_num.specs.Ranges.{is_member}
 use Rattle.ms_ground.specs.declared.tree.Ground.{Ground, fold-Ground}
-use Rattle.ms_ground.specs.declared.tree.Ground.TheOpen.{Ground-F, Num, Undef, Var, Add, Sub, Mul, Div, Mod, Neg, Abs, Sum, Least, Greatest, ToInt, Elem, Count, IteI, True, False, BVar, And, Or, Not, Iff, Imp, Xor, Eq, Ne, Lt, Le, IteB, In}
+use Rattle.ms_ground.specs.declared.tree.Ground.TheOpen.{Ground-F, Num, Undef, Var, Add, Sub, Mul, Div, Mod, Neg, Abs, Sum, Least, Greatest, ToInt, Elem, Elem2, Count, IteI, True, False, BVar, And, Or, Not, Iff, Imp, Xor, Eq, Ne, Lt, Le, IteB, In}
 
 -- a number or undefined, for an integer tree; a truth value, for a Boolean one
 pub record Meaning : Type 0 where
@@ -146,6 +146,7 @@ value_step a (Least xs) = numeric (extreme min_at xs)
 value_step a (Greatest xs) = numeric (extreme max_at xs)
 value_step a (ToInt x) = numeric (Some (bit x.truth))
 value_step a (Elem low xs i) = numeric (selected (is_place low i.number) 0 xs)
+value_step a (Elem2 k l w xs i j) = numeric (selected (is_place2 k l w (length xs) i.number j.number) 0 xs)
 value_step a (Count xs y) = numeric (counted xs y.number)
 value_step a (IteI c x y) = numeric (if c.truth then x.number else y.number)
 value_step a True = boolean true

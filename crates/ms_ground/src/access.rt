@@ -2,7 +2,7 @@ ghost use Rattle.std.specs.Prelude.{◌≡◌, IsTrue, Some, ◌/◌, ◌||◌, 
 ghost use Rattle.ms_num.specs.Span.{has, is_within, point};
 ghost use Rattle.ms_ground.specs.Reach.{is_reached, is_reached2, leaves as leaves_places};
 ghost use Rattle.ms_ground.specs.Access.{reaches as reached_by};
-ghost use Rattle.ms_ground.specs.declared.access.Access.TheVariants.{Line};
+ghost use Rattle.ms_ground.specs.declared.access.Access.TheVariants.{Line, Grid};
 
 use crate::tree::Reach;
 use ms_num::Iv;
@@ -31,6 +31,36 @@ impl Access {
         ensures { result ≡ Line low (Some (point index)) }
     {
         Access::Line(low, Some(Iv::single(index)))
+    }
+
+    /// The elements of an interval of rows and one of columns.
+    pub fn over(
+        low: i64,
+        left: i64,
+        width: usize,
+        count: usize,
+        row: Option<Iv>,
+        column: Option<Iv>,
+    ) -> Access
+        ensures { result ≡ Grid low left width count row column }
+    {
+        Access::Grid(low, left, width, count, row, column)
+    }
+
+    /// The element of the one row and column.
+    pub fn cell(low: i64, left: i64, width: usize, count: usize, row: i64, column: i64) -> Access
+        requires row { IsTrue (is_within row) }
+        requires column { IsTrue (is_within column) }
+        ensures { result ≡ Grid low left width count (Some (point row)) (Some (point column)) }
+    {
+        Access::Grid(
+            low,
+            left,
+            width,
+            count,
+            Some(Iv::single(row)),
+            Some(Iv::single(column)),
+        )
     }
 }
 

@@ -29,6 +29,14 @@ impl Ground {
                 copy_trees(alloc, parts.as_slice())?,
                 copy_box(alloc, index)?,
             )),
+            Ground::Elem2(low, left, width, parts, row, column) => Ok(Ground::Elem2(
+                *low,
+                *left,
+                *width,
+                copy_trees(alloc, parts.as_slice())?,
+                copy_box(alloc, row)?,
+                copy_box(alloc, column)?,
+            )),
             Ground::Count(parts, a) => Ok(Ground::Count(
                 copy_trees(alloc, parts.as_slice())?,
                 copy_box(alloc, a)?,

@@ -61,6 +61,16 @@ pub fn value_at(g: &Ground, point: &[i64]) -> Option<i64>
             Some(z) => { selected_at(parts.as_slice(), &Access::line(*low, z), point) },
             None => None,
         },
+        Ground::Elem2(low, left, width, parts, row, column) => match pair(
+            value_at(row.get(), point),
+            value_at(column.get(), point),
+        ) {
+            Some((y, z)) => {
+                let access = Access::cell(*low, *left, *width, parts.len(), y, z);
+                selected_at(parts.as_slice(), &access, point)
+            }
+            None => None,
+        },
         Ground::Count(parts, a) => match value_at(a.get(), point) {
             Some(n) => count_at(parts.as_slice(), n, point),
             None => None,

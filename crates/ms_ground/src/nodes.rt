@@ -37,6 +37,10 @@ pub fn size(g: &Ground) -> u64
         Ground::Elem(_, parts, index) => size_all(parts.as_slice())
             .saturating_add(size(index.get()))
             .saturating_add(1),
+        Ground::Elem2(_, _, _, parts, row, column) => size_all(parts.as_slice())
+            .saturating_add(size(row.get()))
+            .saturating_add(size(column.get()))
+            .saturating_add(1),
         Ground::Count(parts, a) => size_all(parts.as_slice())
             .saturating_add(size(a.get()))
             .saturating_add(1),
@@ -91,6 +95,10 @@ pub fn nesting(g: &Ground) -> u64
         | Ground::Or(parts) => deepest_of(parts.as_slice()).saturating_add(1),
         Ground::Elem(_, parts, index) => deepest_of(parts.as_slice())
             .max(nesting(index.get()))
+            .saturating_add(1),
+        Ground::Elem2(_, _, _, parts, row, column) => deepest_of(parts.as_slice())
+            .max(nesting(row.get()))
+            .max(nesting(column.get()))
             .saturating_add(1),
         Ground::Count(parts, a) => deepest_of(parts.as_slice())
             .max(nesting(a.get()))

@@ -5,7 +5,7 @@ ghost use Rattle.ms_ground.specs.Access.{reaches as reached_by};
 ghost use Rattle.ms_ground.specs.Extreme.{extreme_span as operation_of};
 ghost use Rattle.ms_ground.specs.Fit.{is_fit, numbers, truths, sums_fit, checked};
 
-use crate::access::{Access, misses, reaches};
+use crate::access::{Access, misses, misses_grid, reaches};
 use crate::extreme::Extreme;
 use crate::numbers::one_if;
 use crate::spans::{
@@ -73,6 +73,13 @@ fn numbers_on(g: &Ground, sets: &[Iv]) -> Reach
             let i = numbers_on(index.get(), sets);
             let none = misses(*low, parts.len(), i);
             let access = Access::along(*low, i.numbers);
+            selected_on(parts.as_slice(), &access, none, sets)
+        }
+        Ground::Elem2(low, left, width, parts, row, column) => {
+            let i = numbers_on(row.get(), sets);
+            let j = numbers_on(column.get(), sets);
+            let none = misses_grid(*low, *left, *width, parts.len(), i, j);
+            let access = Access::over(*low, *left, *width, parts.len(), i.numbers, j.numbers);
             selected_on(parts.as_slice(), &access, none, sets)
         }
         Ground::Count(parts, a) => {

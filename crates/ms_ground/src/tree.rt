@@ -32,6 +32,9 @@ pub enum Ground {
     ToInt(Boxed<Ground>),
     /// Lowest index, elements and index: the element of that index alone, undefined where there is none.
     Elem(i64, Items<Ground>, Boxed<Ground>),
+    /// Lowest index of the rows and of the columns, width, elements row by row, and the two indices: the element of
+    /// that row and column alone, undefined where there is none. Elements behind the last whole row have no index.
+    Elem2(i64, i64, usize, Items<Ground>, Boxed<Ground>, Boxed<Ground>),
     /// How many of the list are the second number.
     Count(Items<Ground>, Boxed<Ground>),
     /// Condition, `then` and `else`: the taken branch alone.

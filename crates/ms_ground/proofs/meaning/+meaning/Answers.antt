@@ -1,4 +1,4 @@
-use Rattle.std.proofs.Common.{◌≡◌, ℕ, ◌+◌, ◌&&◌, Bool, List, [], Some, None, map, drop, add-zero, of_z, arith, ◌∙◌, sym, ap, rules, to_z, w64, SFits}
+use Rattle.std.proofs.Common.{◌≡◌, ℕ, ◌+◌, ◌&&◌, Bool, List, [], Some, None, map, drop, length, add-zero, of_z, refl, arith, ◌∙◌, sym, ap, rules, to_z, w64, SFits}
 use Rattle.std.specs.Prelude.{is_some, if◌then◌else◌}
 use Rattle.std.proofs.lemmas.Int.{to_z-of_z, to_z_pos}
 use Rattle.std.proofs.lemmas.List.{drop_all}
@@ -10,8 +10,8 @@ use Rattle.ms_ground.specs.Reach.{points}
 use Rattle.ms_ground.specs.Extreme.{extreme_at}
 use Rattle.ms_ground.specs.Access.{reaches}
 use Rattle.ms_ground.specs.declared.tree.Ground.TheFolds.{the_lemmas}
-use Rattle.ms_ground.proofs.Fits.{fit-Abs, fit-Add, fit-And, fit-BVar, fit-Count, fit-Div, fit-Elem, fit-Eq, fit-Greatest, fit-Iff, fit-Imp, fit-In, fit-IteB, fit-IteI, fit-Le, fit-Least, fit-Lt, fit-Mod, fit-Mul, fit-Ne, fit-Neg, fit-Not, fit-Or, fit-Sub, fit-Sum, fit-ToInt, fit-Var, fit-Xor, fit-sums, within-Add, within-Sub, within-Mul, drop_here, sums_on, sum_none, holds_on}
-use Rattle.ms_ground.proofs.Walks.{within_test, number_within, first_of_pair, onward_one, onward_none, onward_number, numbers_on, counted_one, not_counted, all_counted, unselected, next_place, at_most_one, count_within, count_fits}
+use Rattle.ms_ground.proofs.Fits.{fit-Abs, fit-Add, fit-And, fit-BVar, fit-Count, fit-Div, fit-Elem, fit-Elem2, fit-Eq, fit-Greatest, fit-Iff, fit-Imp, fit-In, fit-IteB, fit-IteI, fit-Le, fit-Least, fit-Lt, fit-Mod, fit-Mul, fit-Ne, fit-Neg, fit-Not, fit-Or, fit-Sub, fit-Sum, fit-ToInt, fit-Var, fit-Xor, fit-sums, within-Add, within-Sub, within-Mul, drop_here, sums_on, sum_none, holds_on}
+use Rattle.ms_ground.proofs.Walks.{within_test, number_within, first_of_pair, onward_one, onward_none, onward_number, numbers_on, counted_one, not_counted, all_counted, unselected, unselected2, elem_value, elem2_value, second_of_pair, next_place, at_most_one, count_within, count_fits}
 use Rattle.ms_ground.proofs.meaning.+meaning.Goals as goal
 
 pub value_at-value_at-requires : goal.value_at-value_at-requires
@@ -67,6 +67,15 @@ value_at-value_at-requires-in-Elem t c = (search (rules, the_lemmas), rw c.get-i
 
 pub value_at-selected_at-requires : goal.value_at-selected_at-requires
 value_at-selected_at-requires t c = (search (rules, the_lemmas), rw c.as_slice-in-Some-value_at-3.ensures ((fit-Elem _ _ _ _ (rw c.in-Elem.is at c.requires)).list))
+
+pub value_at-value_at-requires-in-Elem2 : goal.value_at-value_at-requires-in-Elem2
+value_at-value_at-requires-in-Elem2 t c = (search (rules, the_lemmas), rw c.get-in-Elem2.ensures ((fit-Elem2 _ _ _ _ _ _ _ (rw c.in-Elem2.is at c.requires)).first.fit))
+
+pub value_at-value_at-requires-in-Elem2-2 : goal.value_at-value_at-requires-in-Elem2-2
+value_at-value_at-requires-in-Elem2-2 t c = (search (rules, the_lemmas), rw c.get-in-Elem2-2.ensures ((fit-Elem2 _ _ _ _ _ _ _ (rw c.in-Elem2.is at c.requires)).second.fit))
+
+pub value_at-selected_at-requires-in-Some-pair-5 : goal.value_at-selected_at-requires-in-Some-pair-5
+value_at-selected_at-requires-in-Some-pair-5 t c = (search (rules, the_lemmas), rw c.as_slice-in-Some-pair-5.ensures ((fit-Elem2 _ _ _ _ _ _ _ (rw c.in-Elem2.is at c.requires)).list))
 
 pub value_at-value_at-requires-in-Count : goal.value_at-value_at-requires-in-Count
 value_at-value_at-requires-in-Count t c = (search (rules, the_lemmas), rw c.get-in-Count.ensures ((fit-Count _ _ _ (rw c.in-Count.is at c.requires)).beside.fit))
@@ -218,6 +227,57 @@ value_at-returns-in-None-value_at-3 t c =
     sym (unselected c.in-Elem.low 0 (map (value c.args.point.now) c.in-Elem.parts))
     ∙ ap (λ o. selected (is_place c.in-Elem.low o) 0 (map (value c.args.point.now) c.in-Elem.parts)) none
     ∙ sym (rw c.in-Elem.is (search the_lemmas))
+
+pub value_at-returns-in-Some-value_at-3 : goal.value_at-returns-in-Some-value_at-3
+value_at-returns-in-Some-value_at-3 t c =
+    let s = c.in-Some-value_at-3 in
+    let z : SFits w64 s.z = search rules in
+    let low : SFits w64 c.in-Elem.low = search rules in
+    let access = rw (to_z-of_z w64 c.in-Elem.low low, to_z-of_z w64 s.z z) at c.line.ensures in
+    let some = rw c.get-in-Elem.ensures at s.ensures in
+    rw c.in-Elem.is
+    (rw (access, c.as_slice-in-Some-value_at-3.ensures) at c.selected_at.ensures
+    ∙ ap (λ o. selected (is_place c.in-Elem.low o) 0 (map (value c.args.point.now) c.in-Elem.parts)) some
+    ∙ elem_value c.args.point.now c.in-Elem.low c.in-Elem.parts c.in-Elem.index)
+
+pub value_at-cell-access-requires-clause-row : goal.value_at-cell-access-requires-clause-row
+value_at-cell-access-requires-clause-row t c =
+    let s = c.in-Some-pair-5 in
+    let y : SFits w64 s.y = search rules in
+    let both = rw (c.value_at-in-Elem2.ensures, c.get-in-Elem2.ensures, c.value_at-in-Elem2-2.ensures, c.get-in-Elem2-2.ensures) at s.ensures in
+    rw (to_z-of_z w64 s.y y)
+    (within_test s.y (number_within c.args.point.now c.in-Elem2.row (fit-Elem2 _ _ _ _ _ _ _ (rw c.in-Elem2.is at c.requires)).first s.y (first_of_pair _ _ s.y s.z both)))
+
+pub value_at-cell-access-requires-clause-column : goal.value_at-cell-access-requires-clause-column
+value_at-cell-access-requires-clause-column t c =
+    let s = c.in-Some-pair-5 in
+    let z : SFits w64 s.z = search rules in
+    let both = rw (c.value_at-in-Elem2.ensures, c.get-in-Elem2.ensures, c.value_at-in-Elem2-2.ensures, c.get-in-Elem2-2.ensures) at s.ensures in
+    rw (to_z-of_z w64 s.z z)
+    (within_test s.z (number_within c.args.point.now c.in-Elem2.column (fit-Elem2 _ _ _ _ _ _ _ (rw c.in-Elem2.is at c.requires)).second s.z (second_of_pair _ _ s.y s.z both)))
+
+pub value_at-returns-in-Some-pair-5 : goal.value_at-returns-in-Some-pair-5
+value_at-returns-in-Some-pair-5 t c =
+    let s = c.in-Some-pair-5 in
+    let e = c.in-Elem2 in
+    let y : SFits w64 s.y = search rules in
+    let z : SFits w64 s.z = search rules in
+    let low : SFits w64 e.low = search rules in
+    let left : SFits w64 e.left = search rules in
+    let access = rw (to_z-of_z w64 e.low low, to_z-of_z w64 e.left left, to_z-of_z w64 s.y y, to_z-of_z w64 s.z z, c.len.ensures) at c.cell-access.ensures in
+    let both = rw (c.value_at-in-Elem2.ensures, c.get-in-Elem2.ensures, c.value_at-in-Elem2-2.ensures, c.get-in-Elem2-2.ensures) at s.ensures in
+    rw e.is
+    (rw (access, c.as_slice-in-Some-pair-5.ensures) at c.selected_at-in-Some-pair-5.ensures
+    ∙ elem2_value c.args.point.now e.low e.left e.width e.parts e.row e.column (Some s.y) (Some s.z) both)
+
+pub value_at-returns-in-None-pair-5 : goal.value_at-returns-in-None-pair-5
+value_at-returns-in-None-pair-5 t c =
+    let s = c.in-None-pair-5 in
+    let e = c.in-Elem2 in
+    let both = rw (c.value_at-in-Elem2.ensures, c.get-in-Elem2.ensures, c.value_at-in-Elem2-2.ensures, c.get-in-Elem2-2.ensures) at s.ensures in
+    rw e.is
+    (sym (unselected2 e.low e.left e.width (length e.parts) None None refl 0 (map (value c.args.point.now) e.parts))
+    ∙ elem2_value c.args.point.now e.low e.left e.width e.parts e.row e.column None None both)
 
 pub holds-bounds-point-v : goal.holds-bounds-point-v
 holds-bounds-point-v t c = omega (arith, (fit-BVar (points c.args.point.now) c.in-BVar.v (rw c.in-BVar.is at c.requires)).within, length-map c.args.point.now point)

@@ -7,11 +7,12 @@ use Rattle.ms_ground.specs.Reach as r
 use Rattle.ms_ground.specs.Reach.{reach}
 use Rattle.ms_ground.specs.Access.{reaches}
 use Rattle.ms_ground.specs.Extreme.{extreme_span, onward_on}
+use Rattle.ms_ground.specs.declared.tree.Reach.{Reach}
 use Rattle.ms_ground.specs.declared.tree.Ground.TheFolds.{the_lemmas}
 use Rattle.ms_ground.proofs.Bools.{ap2, or_none}
-use Rattle.ms_ground.proofs.Fits.{fit-Abs, fit-Add, fit-And, fit-BVar, fit-Count, fit-Div, fit-Elem, fit-Eq, fit-Greatest, fit-Iff, fit-Imp, fit-In, fit-IteB, fit-IteI, fit-Le, fit-Least, fit-Lt, fit-Mod, fit-Mul, fit-Ne, fit-Neg, fit-Not, fit-Or, fit-Sub, fit-Sum, fit-ToInt, fit-Var, fit-Xor, fit-sums, fits-Num, fits-Add, fits-Sub, fits-Mul, drop_here, spans_on, truths_on, read_default}
+use Rattle.ms_ground.proofs.Fits.{fit-Abs, fit-Add, fit-And, fit-BVar, fit-Count, fit-Div, fit-Elem, fit-Elem2, fit-Eq, fit-Greatest, fit-Iff, fit-Imp, fit-In, fit-IteB, fit-IteI, fit-Le, fit-Least, fit-Lt, fit-Mod, fit-Mul, fit-Ne, fit-Neg, fit-Not, fit-Or, fit-Sub, fit-Sum, fit-ToInt, fit-Var, fit-Xor, fit-sums, fits-Num, fits-Add, fits-Sub, fits-Mul, drop_here, spans_on, truths_on, read_default}
 use Rattle.ms_ground.proofs.Walks.{counted_one, at_most_one}
-use Rattle.ms_ground.proofs.Boxes.{PlaceOn, parts_on, onward_end, join_end, place_taken, place_passed, count_interval}
+use Rattle.ms_ground.proofs.Boxes.{PlaceOn, parts_on, onward_end, join_end, place_taken, place_passed, elem_reach, elem2_reach, count_interval}
 use Rattle.ms_ground.proofs.Smaller.{truth_some}
 use Rattle.ms_ground.proofs.reaching.+reach.Goals as goal
 use Rattle.ms_ground.proofs.reaching.+reach.Goals.{selected_on-then-reaches, selected_on-else-reaches}
@@ -70,6 +71,33 @@ numbers_on-numbers_on-i-requires t c = (search (rules, the_lemmas), rw c.get-in-
 pub numbers_on-selected_on-requires : goal.numbers_on-selected_on-requires
 numbers_on-selected_on-requires t c =
     (rw c.as_slice-in-Elem.ensures (search (rules, the_lemmas)), rw c.as_slice-in-Elem.ensures ((fit-Elem _ _ _ _ (rw c.in-Elem.is at c.requires)).list))
+
+pub numbers_on-numbers_on-i-requires-in-Elem2 : goal.numbers_on-numbers_on-i-requires-in-Elem2
+numbers_on-numbers_on-i-requires-in-Elem2 t c = (search (rules, the_lemmas), rw c.get-in-Elem2.ensures ((fit-Elem2 _ _ _ _ _ _ _ (rw c.in-Elem2.is at c.requires)).first.fit))
+
+pub numbers_on-numbers_on-j-requires : goal.numbers_on-numbers_on-j-requires
+numbers_on-numbers_on-j-requires t c = (search (rules, the_lemmas), rw c.get-in-Elem2-2.ensures ((fit-Elem2 _ _ _ _ _ _ _ (rw c.in-Elem2.is at c.requires)).second.fit))
+
+pub numbers_on-selected_on-requires-in-Elem2 : goal.numbers_on-selected_on-requires-in-Elem2
+numbers_on-selected_on-requires-in-Elem2 t c =
+    (rw c.as_slice-in-Elem2.ensures (search (rules, the_lemmas)), rw c.as_slice-in-Elem2.ensures ((fit-Elem2 _ _ _ _ _ _ _ (rw c.in-Elem2.is at c.requires)).list))
+
+pub numbers_on-returns-in-Elem : goal.numbers_on-returns-in-Elem
+numbers_on-returns-in-Elem t c =
+    let e = c.in-Elem in
+    let low : SFits w64 e.low = search rules in
+    rw e.is
+    (rw (c.along-access.ensures, c.misses-none.ensures, to_z-of_z w64 e.low low, c.as_slice-in-Elem.ensures, c.len.ensures, c.numbers_on-i.ensures, c.get-in-Elem.ensures) at c.selected_on.ensures
+    ∙ ap (λ (q : Reach). r.numeric q.numbers q.undefined) (elem_reach c.args.sets.now e.low e.parts e.index))
+
+pub numbers_on-returns-in-Elem2 : goal.numbers_on-returns-in-Elem2
+numbers_on-returns-in-Elem2 t c =
+    let e = c.in-Elem2 in
+    let low : SFits w64 e.low = search rules in
+    let left : SFits w64 e.left = search rules in
+    rw e.is
+    (rw (c.over-access.ensures, c.misses_grid-none.ensures, to_z-of_z w64 e.low low, to_z-of_z w64 e.left left, c.as_slice-in-Elem2.ensures, c.len-in-Elem2.ensures, c.len-in-Elem2-2.ensures, c.numbers_on-i-in-Elem2.ensures, c.get-in-Elem2.ensures, c.numbers_on-j.ensures, c.get-in-Elem2-2.ensures) at c.selected_on-in-Elem2.ensures
+    ∙ ap (λ (q : Reach). r.numeric q.numbers q.undefined) (elem2_reach c.args.sets.now e.low e.left e.width e.parts e.row e.column))
 
 pub numbers_on-numbers_on-y-requires-in-Count : goal.numbers_on-numbers_on-y-requires-in-Count
 numbers_on-numbers_on-y-requires-in-Count t c = (search (rules, the_lemmas), rw c.get-in-Count.ensures ((fit-Count _ _ _ (rw c.in-Count.is at c.requires)).beside.fit))
