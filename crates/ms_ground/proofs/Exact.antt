@@ -13,7 +13,7 @@ use Rattle.ms_ground.specs.Reach.{reach, reach_step, points, span_at}
 use Rattle.ms_ground.specs.Fit.{Checked, fit_rule, is_fit, is_numeric, numeric_layer, number, truth, numbers, truths}
 use Rattle.ms_ground.specs.declared.tree.Reach.{Reach}
 use Rattle.ms_ground.specs.declared.tree.Ground.{Ground, map-Ground}
-use Rattle.ms_ground.specs.declared.tree.Ground.TheOpen.{Ground-F, Num, Undef, Var, Add, Sub, Mul, Div, Mod, Neg, Abs, Sum, Least, Greatest, ToInt, Elem, Elem2, Count, IteI, True, False, BVar, And, Or, Not, Iff, Imp, Xor, Eq, Ne, Lt, Le, IteB, In}
+use Rattle.ms_ground.specs.declared.tree.Ground.TheOpen.{Ground-F, Num, Undef, Var, Add, Sub, Mul, Div, Mod, Neg, Abs, Sum, Least, Greatest, ToInt, Elem, Elem2, Count, IteI, True, False, BVar, And, Or, Not, Iff, Imp, Xor, Eq, Ne, Lt, Le, IteB, In, AllDiff, Table}
 use Rattle.ms_ground.specs.Fit.{checked}
 use Rattle.ms_ground.specs.Laws.{of_number, exact}
 use Rattle.ms_ground.proofs.Layers.{induct, twice, fit_roll, fold_at, layer_map, is_numeric_roll}
@@ -217,6 +217,8 @@ exact_step a (IteB c x y) h =
     ap3 r.either_truth (condition c x y _ _ _ h) (truth_child x (then_part c x y _ _ _ h)) (truth_child y (else_part c x y _ _ _ h)) ∙ exact_either_truth c.meaning.truth x.meaning.truth y.meaning.truth
 exact_step a (In x rs) h =
     ap (λ (q : Reach). r.boolean (r.test (r.may_be_in rs) q.numbers) (q.undefined || r.test (λ s. not (r.is_inside rs s)) q.numbers)) (number_child x (and_left (number (check x)) _ h)) ∙ exact_in rs x.meaning.number
+exact_step a (AllDiff xs) h = ap r.distinct (number_children xs (and_left (numbers (map check xs)) _ h)) ∙ exact_distinct (map means xs)
+exact_step a (Table xs rows) h = ap (r.rowed rows) (number_children xs (and_left (numbers (map check xs)) _ h)) ∙ exact_rowed rows (map means xs)
 
 abbrev IsSame : List ℤ → Ground → Type 0
 IsSame a g = is_fit (points a) g ≡ true → reach (points a) g ≡ exact (is_numeric g) (value a g)

@@ -163,6 +163,12 @@ module _ (b : List Span) where
   pub fit-In : (x : Ground) (rs : List Span) → is_fit b (g.In x rs) ≡ true → IsNumber b x
   fit-In x rs h = one_number b x (and_left (number (checked b x)) _ (at_layer _ (F.In x rs) h (g.outs-In x rs)))
 
+  pub fit-AllDiff : (xs : List Ground) → is_fit b (g.AllDiff xs) ≡ true → numbers (map (checked b) xs) ≡ true
+  fit-AllDiff xs h = and_left (numbers (map (checked b) xs)) _ (at_layer _ (F.AllDiff xs) h (g.outs-AllDiff xs))
+
+  pub fit-Table : (xs : List Ground) (rows : List (List ℤ)) → is_fit b (g.Table xs rows) ≡ true → numbers (map (checked b) xs) ≡ true
+  fit-Table xs rows h = and_left (numbers (map (checked b) xs)) _ (at_layer _ (F.Table xs rows) h (g.outs-Table xs rows))
+
   pub fit-Var : (v : ℕ) → is_fit b (g.Var v) ≡ true → HasVariable b v
   fit-Var v h = variable b v (and_left (has_variable b v) _ (at_layer _ (F.Var v) h (g.outs-Var v)))
 
@@ -226,6 +232,8 @@ module _ (b : List Span) where
   narrow_fits (F.Le x y) h = h
   narrow_fits (F.IteB c x y) h = h
   narrow_fits (F.In x rs) h = h
+  narrow_fits (F.AllDiff xs) h = h
+  narrow_fits (F.Table xs rows) h = h
 
   -- the interval of a fit tree is narrow
   pub fit_narrow : (g : Ground) → is_fit b g ≡ true → fits (reach b g).numbers ≡ true

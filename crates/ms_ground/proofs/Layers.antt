@@ -4,7 +4,7 @@ use Rattle.ms_num.specs.Span.{Span}
 use Rattle.ms_ground.specs.Fit.{Checked, fit_rule, fit_step, is_fit, is_numeric, checked_of, numeric_layer}
 use Rattle.ms_ground.specs.Fit.{checked}
 use Rattle.ms_ground.specs.declared.tree.Ground.{Ground, roll-Ground, map-Ground, ind-Ground, out-Ground, roll-out-Ground, para-roll-Ground, fold-Ground, fold-roll-Ground}
-use Rattle.ms_ground.specs.declared.tree.Ground.TheOpen.{Ground-F, Num, Undef, Var, Add, Sub, Mul, Div, Mod, Neg, Abs, Sum, Least, Greatest, ToInt, Elem, Elem2, Count, IteI, True, False, BVar, And, Or, Not, Iff, Imp, Xor, Eq, Ne, Lt, Le, IteB, In}
+use Rattle.ms_ground.specs.declared.tree.Ground.TheOpen.{Ground-F, Num, Undef, Var, Add, Sub, Mul, Div, Mod, Neg, Abs, Sum, Least, Greatest, ToInt, Elem, Elem2, Count, IteI, True, False, BVar, And, Or, Not, Iff, Imp, Xor, Eq, Ne, Lt, Le, IteB, In, AllDiff, Table}
 
 -- what holds of a node where it holds of its parts holds of each tree
 pub induct : (P : Ground → Type 0) → ((y : Ground-F ((g : Ground) × P g)) → P (roll-Ground (map-Ground ((g : Ground) × P g) Ground (λ e. e.0) y))) → (g : Ground) → P g
@@ -49,6 +49,8 @@ twice f g (Lt x y) = refl
 twice f g (Le x y) = refl
 twice f g (IteB c x y) = refl
 twice f g (In x rs) = refl
+twice f g (AllDiff xs) = ap AllDiff (list_twice f g xs)
+twice f g (Table xs rows) = ap (λ ys. Table ys rows) (list_twice f g xs)
 
 pub fit_roll : (b : List Span) (d : Ground-F Ground) → is_fit b (roll-Ground d) ≡ fit_rule b (map-Ground Ground Checked (checked b) d)
 unfolding is_fit
@@ -92,6 +94,8 @@ layer_map f (Lt x y) = refl
 layer_map f (Le x y) = refl
 layer_map f (IteB c x y) = refl
 layer_map f (In x rs) = refl
+layer_map f (AllDiff xs) = refl
+layer_map f (Table xs rows) = refl
 
 pub is_numeric_roll : {E : Type 0} (p : E → Ground) (y : Ground-F E) → is_numeric (roll-Ground (map-Ground E Ground p y)) ≡ numeric_layer y
 is_numeric_roll p y = fold_at Bool numeric_layer p y ∙ layer_map (λ e. is_numeric (p e)) y

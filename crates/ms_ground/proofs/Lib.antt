@@ -11,3 +11,5 @@ pub mod Smaller
 pub mod Walks
 pub mod Boxes
 pub mod Refutes
+pub mod Distinct
+pub mod Rowed

@@ -13,7 +13,7 @@ use Rattle.ms_ground.specs.Laws.{Fewer, Numbers, Less, Smaller, HasVariable, Lie
 use Rattle.ms_ground.specs.Fit.{Checked, fit_rule, sorted_step, narrow_step, sums_fit, fits, is_fit, is_numeric, numeric_layer, number, truth, numbers, truths, has_variable, checked, reach_of}
 use Rattle.ms_ground.specs.declared.tree.Reach.{Reach}
 use Rattle.ms_ground.specs.declared.tree.Ground.{Ground, roll-Ground, map-Ground}
-use Rattle.ms_ground.specs.declared.tree.Ground.TheOpen.{Ground-F, Num, Undef, Var, Add, Sub, Mul, Div, Mod, Neg, Abs, Sum, Least, Greatest, ToInt, Elem, Elem2, Count, IteI, True, False, BVar, And, Or, Not, Iff, Imp, Xor, Eq, Ne, Lt, Le, IteB, In}
+use Rattle.ms_ground.specs.declared.tree.Ground.TheOpen.{Ground-F, Num, Undef, Var, Add, Sub, Mul, Div, Mod, Neg, Abs, Sum, Least, Greatest, ToInt, Elem, Elem2, Count, IteI, True, False, BVar, And, Or, Not, Iff, Imp, Xor, Eq, Ne, Lt, Le, IteB, In, AllDiff, Table}
 use Rattle.ms_ground.proofs.Layers.{induct, twice, fit_roll, fold_at, layer_map, is_numeric_roll}
 use Rattle.ms_ground.proofs.Bools.{and_left, and_right, and_true, and_less, is_false, le_of, of_le}
 use Rattle.ms_ground.proofs.Exact.{reach_on_point}
@@ -109,6 +109,8 @@ sorted_keeps b b' len sm (Lt x y) h = (and_less (number (large x)) (number (larg
 sorted_keeps b b' len sm (Le x y) h = (and_less (number (large x)) (number (large y)) (number (small x)) (number (small y)) (number_keeps x) (number_keeps y)) h
 sorted_keeps b b' len sm (IteB c x y) h = (and_less (truth (large c) && truth (large x)) (truth (large y)) (truth (small c) && truth (small x)) (truth (small y)) (and_less (truth (large c)) (truth (large x)) (truth (small c)) (truth (small x)) (truth_keeps c) (truth_keeps x)) (truth_keeps y)) h
 sorted_keeps b b' len sm (In x rs) h = (number_keeps x) h
+sorted_keeps b b' len sm (AllDiff xs) h = (numbers_keeps xs) h
+sorted_keeps b b' len sm (Table xs rows) h = (numbers_keeps xs) h
 
 fits_fewer : (o p : Option Span) → Fewer o p → fits p ≡ true → fits o ≡ true
 fits_fewer None p f h = refl
@@ -165,6 +167,8 @@ narrow_keeps b b' (Lt x y) s l h = refl
 narrow_keeps b b' (Le x y) s l h = refl
 narrow_keeps b b' (IteB c x y) s l h = refl
 narrow_keeps b b' (In x rs) s l h = refl
+narrow_keeps b b' (AllDiff xs) s l h = refl
+narrow_keeps b b' (Table xs rows) s l h = refl
 
 abbrev Claim : List Span → List Span → Ground → Type 0
 Claim b b' g = is_fit b' g ≡ true → is_fit b g ≡ true

@@ -18,7 +18,7 @@ use Rattle.ms_ground.specs.Fit.{Checked, fit_rule, is_fit, is_numeric, numeric_l
 use Rattle.ms_ground.specs.Fit.{checked}
 use Rattle.ms_ground.specs.declared.tree.Reach.{Reach}
 use Rattle.ms_ground.specs.declared.tree.Ground.{Ground, roll-Ground, map-Ground}
-use Rattle.ms_ground.specs.declared.tree.Ground.TheOpen.{Ground-F, Num, Undef, Var, Add, Sub, Mul, Div, Mod, Neg, Abs, Sum, Least, Greatest, ToInt, Elem, Elem2, Count, IteI, True, False, BVar, And, Or, Not, Iff, Imp, Xor, Eq, Ne, Lt, Le, IteB, In}
+use Rattle.ms_ground.specs.declared.tree.Ground.TheOpen.{Ground-F, Num, Undef, Var, Add, Sub, Mul, Div, Mod, Neg, Abs, Sum, Least, Greatest, ToInt, Elem, Elem2, Count, IteI, True, False, BVar, And, Or, Not, Iff, Imp, Xor, Eq, Ne, Lt, Le, IteB, In, AllDiff, Table}
 use Rattle.ms_ground.proofs.Layers.{induct, twice, fit_roll, fold_at, layer_map, is_numeric_roll}
 use Rattle.ms_ground.proofs.Bools.{and_left, and_right, and_true, and_less, or_left, or_right, or_split, or_swap, or_less, or_false, not_grows, not_true, true_not, is_false, both_ways, le_of, of_le, lt_of, of_lt, not_le, not_lt, eq_of, of_eq}
 use Rattle.ms_ground.proofs.Fits.{variable}
@@ -812,6 +812,8 @@ less_step b b' sm (IteB c x y) h =
     let t = branches c (truth (check x)) (truth (check y)) _ h in
     either_truer c.small c.large x.small x.large y.small y.large t.condition (truth_child x t.then_part) (truth_child y t.else_part)
 less_step b b' sm (In x rs) h = in_less rs x.small x.large (number_child x (and_left (number (check x)) _ h))
+less_step b b' sm (AllDiff xs) h = distinct_less (map smalls xs) (map larges xs) (number_children xs (and_left (numbers (map check xs)) _ h))
+less_step b b' sm (Table xs rows) h = rowed_less rows (map smalls xs) (map larges xs) (number_children xs (and_left (numbers (map check xs)) _ h))
 
 abbrev pub IsLess : List Span → List Span → Ground → Type 0
 IsLess b b' g = is_fit b' g ≡ true → Less (is_numeric g) (reach b g) (reach b' g)

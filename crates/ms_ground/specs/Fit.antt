@@ -4,7 +4,7 @@ use Rattle.ms_num.specs.Span.{Span, point, is_narrow, add_span}
 use Rattle.ms_ground.specs.Reach.{reach, reach_step, both, span_at}
 use Rattle.ms_ground.specs.declared.tree.Reach.{Reach}
 use Rattle.ms_ground.specs.declared.tree.Ground.{Ground, fold-Ground, para-Ground, map-Ground}
-use Rattle.ms_ground.specs.declared.tree.Ground.TheOpen.{Ground-F, Num, Undef, Var, Add, Sub, Mul, Div, Mod, Neg, Abs, Sum, Least, Greatest, ToInt, Elem, Elem2, Count, IteI, True, False, BVar, And, Or, Not, Iff, Imp, Xor, Eq, Ne, Lt, Le, IteB, In}
+use Rattle.ms_ground.specs.declared.tree.Ground.TheOpen.{Ground-F, Num, Undef, Var, Add, Sub, Mul, Div, Mod, Neg, Abs, Sum, Least, Greatest, ToInt, Elem, Elem2, Count, IteI, True, False, BVar, And, Or, Not, Iff, Imp, Xor, Eq, Ne, Lt, Le, IteB, In, AllDiff, Table}
 
 abbrev pub numeric_layer : {X : Type 0} → Ground-F X → Bool
 numeric_layer (Num n) = true
@@ -40,6 +40,8 @@ numeric_layer (Lt x y) = false
 numeric_layer (Le x y) = false
 numeric_layer (IteB c x y) = false
 numeric_layer (In x rs) = false
+numeric_layer (AllDiff xs) = false
+numeric_layer (Table xs rows) = false
 
 -- the tree is an integer tree
 abbrev pub is_numeric : Ground → Bool
@@ -104,6 +106,8 @@ sorted_step b (Lt x y) = number x && number y
 sorted_step b (Le x y) = number x && number y
 sorted_step b (IteB c x y) = truth c && truth x && truth y
 sorted_step b (In x rs) = number x
+sorted_step b (AllDiff xs) = numbers xs
+sorted_step b (Table xs rows) = numbers xs
 
 abbrev pub fits : Option Span → Bool
 fits None = true

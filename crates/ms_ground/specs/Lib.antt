@@ -5,3 +5,4 @@ pub mod Fit
 pub mod Laws
 pub mod Access
 pub mod Extreme
+pub mod Room

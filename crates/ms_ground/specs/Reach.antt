@@ -7,7 +7,7 @@ use Rattle.ms_ground.specs.Value.{iff, imp, xor, how_many}
 use Rattle.ms_ground.specs.declared.tree.Reach.{Reach}
 use Rattle.ms_ground.specs.declared.tree.Hull.{Hull}
 use Rattle.ms_ground.specs.declared.tree.Ground.{Ground, fold-Ground}
-use Rattle.ms_ground.specs.declared.tree.Ground.TheOpen.{Ground-F, Num, Undef, Var, Add, Sub, Mul, Div, Mod, Neg, Abs, Sum, Least, Greatest, ToInt, Elem, Elem2, Count, IteI, True, False, BVar, And, Or, Not, Iff, Imp, Xor, Eq, Ne, Lt, Le, IteB, In}
+use Rattle.ms_ground.specs.declared.tree.Ground.TheOpen.{Ground-F, Num, Undef, Var, Add, Sub, Mul, Div, Mod, Neg, Abs, Sum, Least, Greatest, ToInt, Elem, Elem2, Count, IteI, True, False, BVar, And, Or, Not, Iff, Imp, Xor, Eq, Ne, Lt, Le, IteB, In, AllDiff, Table}
 
 -- the box of one assignment
 abbrev pub points : List ℤ → List Span
@@ -193,9 +193,13 @@ held lo hi rs = how_many (λ r. test (λ s. int_le lo s.lo && int_le s.hi hi) r.
 abbrev pub has_room : ℤ → ℤ → List Reach → Bool
 has_room lo hi rs = int_lt hi lo || int_le (pos (held lo hi rs)) (hi -ℤ lo +ℤ pos 1)
 
+-- each range from the lower end of the interval to the upper end of a part has room
+abbrev pub room_from : List Reach → Option Span → Bool
+room_from rs o = list_all (λ q. not (compare (λ s t. not (has_room s.lo t.hi rs)) o q.numbers)) rs
+
 -- each range from the lower end of a part to the upper end of one has room
 abbrev pub have_room : List Reach → Bool
-have_room rs = list_all (λ r. list_all (λ q. not (compare (λ s t. not (has_room s.lo t.hi rs)) r.numbers q.numbers)) rs) rs
+have_room rs = list_all (λ r. room_from rs r.numbers) rs
 
 -- the intervals of two parts meet
 abbrev pub some_meet : List Reach → Bool
@@ -256,6 +260,8 @@ reach_step b (Lt x y) = comparison may_be_less may_be_at_least x y
 reach_step b (Le x y) = comparison may_be_at_most may_be_greater x y
 reach_step b (IteB c x y) = either_truth c x y
 reach_step b (In x rs) = boolean (test (may_be_in rs) x.numbers) (x.undefined || test (λ s. not (is_inside rs s)) x.numbers)
+reach_step b (AllDiff xs) = distinct xs
+reach_step b (Table xs rows) = rowed rows xs
 
 -- the interval meaning of a tree on a box
 abbrev pub reach : List Span → Ground → Reach

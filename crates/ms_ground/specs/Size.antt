@@ -1,7 +1,7 @@
 -- How large a tree is.
 use Rattle.std.specs.Prelude.{ℕ, ◌+◌, max, List, [], ◌∷◌, length, sum, sum_by}
 use Rattle.ms_ground.specs.declared.tree.Ground.{Ground, fold-Ground}
-use Rattle.ms_ground.specs.declared.tree.Ground.TheOpen.{Ground-F, Num, Undef, Var, Add, Sub, Mul, Div, Mod, Neg, Abs, Sum, Least, Greatest, ToInt, Elem, Elem2, Count, IteI, True, False, BVar, And, Or, Not, Iff, Imp, Xor, Eq, Ne, Lt, Le, IteB, In}
+use Rattle.ms_ground.specs.declared.tree.Ground.TheOpen.{Ground-F, Num, Undef, Var, Add, Sub, Mul, Div, Mod, Neg, Abs, Sum, Least, Greatest, ToInt, Elem, Elem2, Count, IteI, True, False, BVar, And, Or, Not, Iff, Imp, Xor, Eq, Ne, Lt, Le, IteB, In, AllDiff, Table}
 
 abbrev pub size_step : Ground-F ℕ → ℕ
 size_step (Num n) = 1
@@ -37,6 +37,8 @@ size_step (Lt x y) = 1 + x + y
 size_step (Le x y) = 1 + x + y
 size_step (IteB c x y) = 1 + c + x + y
 size_step (In x rs) = 1 + x + length rs
+size_step (AllDiff xs) = 1 + sum xs
+size_step (Table xs rows) = 1 + sum xs + sum_by length rows
 
 -- the number of nodes, and one more for each range of a set and each number of a table
 abbrev pub size_of : Ground → ℕ
@@ -80,6 +82,8 @@ nesting_step (Lt x y) = 1 + max x y
 nesting_step (Le x y) = 1 + max x y
 nesting_step (IteB c x y) = 1 + max (max c x) (y)
 nesting_step (In x rs) = 1 + x
+nesting_step (AllDiff xs) = 1 + deepest xs
+nesting_step (Table xs rows) = 1 + deepest xs
 
 -- how many nodes stand one in another: 1 for a leaf
 abbrev pub nesting_of : Ground → ℕ

@@ -4,7 +4,7 @@ use Rattle.std.specs.List.{list_any, list_all}
 use Rattle.ms_num.specs.Numbers.{int_eq, neg_at, abs_at, add_at, sub_at, mul_at, div_at, mod_at, min_at, max_at}
 use Rattle.ms_num.specs.Ranges.{is_member}
 use Rattle.ms_ground.specs.declared.tree.Ground.{Ground, fold-Ground}
-use Rattle.ms_ground.specs.declared.tree.Ground.TheOpen.{Ground-F, Num, Undef, Var, Add, Sub, Mul, Div, Mod, Neg, Abs, Sum, Least, Greatest, ToInt, Elem, Elem2, Count, IteI, True, False, BVar, And, Or, Not, Iff, Imp, Xor, Eq, Ne, Lt, Le, IteB, In}
+use Rattle.ms_ground.specs.declared.tree.Ground.TheOpen.{Ground-F, Num, Undef, Var, Add, Sub, Mul, Div, Mod, Neg, Abs, Sum, Least, Greatest, ToInt, Elem, Elem2, Count, IteI, True, False, BVar, And, Or, Not, Iff, Imp, Xor, Eq, Ne, Lt, Le, IteB, In, AllDiff, Table}
 
 -- a number or undefined, for an integer tree; a truth value, for a Boolean one
 pub record Meaning : Type 0 where
@@ -101,10 +101,15 @@ how_many p (x ∷ xs) = if p x then suc (how_many p xs) else how_many p xs
 abbrev pub counted : List Meaning → Option ℤ → Option ℤ
 counted ms n = if all_defined ms && is_some n then Some (pos (how_many (λ m. compare int_eq m.number n) ms)) else None
 
+-- the first is a number, and no later one is the same
+abbrev pub first_differs : List Meaning → Bool
+first_differs [] = true
+first_differs (m ∷ ms) = is_some m.number && list_all (λ n. compare int_ne m.number n.number) ms
+
 -- no two are the same number, and each is one
 abbrev pub are_distinct : List Meaning → Bool
 are_distinct [] = true
-are_distinct (m ∷ ms) = is_some m.number && list_all (λ n. compare int_ne m.number n.number) ms && are_distinct ms
+are_distinct (m ∷ ms) = first_differs (m ∷ ms) && are_distinct ms
 
 -- the parts are the numbers of the row
 abbrev pub is_row : List Meaning → List ℤ → Bool
@@ -164,6 +169,8 @@ value_step a (Lt x y) = boolean (compare int_lt x.number y.number)
 value_step a (Le x y) = boolean (compare int_le x.number y.number)
 value_step a (IteB c x y) = boolean (if c.truth then x.truth else y.truth)
 value_step a (In x rs) = boolean (test (is_member rs) x.number)
+value_step a (AllDiff xs) = boolean (are_distinct xs)
+value_step a (Table xs rows) = boolean (list_any (is_row xs) rows)
 
 -- the meaning of a tree on an assignment
 abbrev pub value : List ℤ → Ground → Meaning

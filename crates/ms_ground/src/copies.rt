@@ -65,6 +65,11 @@ impl Ground {
                 copy_box(alloc, b)?,
             )),
             Ground::In(a, ranges) => Ok(Ground::In(copy_box(alloc, a)?, ranges.copy(alloc)?)),
+            Ground::AllDiff(parts) => Ok(Ground::AllDiff(copy_trees(alloc, parts.as_slice())?)),
+            Ground::Table(parts, rows) => Ok(Ground::Table(
+                copy_trees(alloc, parts.as_slice())?,
+                rows.copy(alloc)?,
+            )),
         }
     }
 }

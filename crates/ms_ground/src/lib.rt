@@ -21,6 +21,7 @@ mod meaning;
 mod nodes;
 mod numbers;
 mod reaching;
+mod room;
 mod spans;
 mod table;
 mod tree;

@@ -1,8 +1,8 @@
-ghost use Rattle.std.specs.Prelude.{◌≡◌, IsTrue, IfSome, Some, pos, map};
+ghost use Rattle.std.specs.Prelude.{◌≡◌, ◌<◌, IsTrue, IfSome, Some, pos, map, length, drop};
 ghost use Rattle.std.specs.List.{list_any};
 ghost use Rattle.ms_num.specs.Numbers.{add_at};
 ghost use Rattle.ms_num.specs.Span.{point as single};
-ghost use Rattle.ms_ground.specs.Value.{value, folded, extreme, selected, counted, all_true, any_true, are_distinct, is_row};
+ghost use Rattle.ms_ground.specs.Value.{value, folded, extreme, selected, counted, all_true, any_true, first_differs, are_distinct, is_row};
 ghost use Rattle.ms_ground.specs.Reach.{reach, points};
 ghost use Rattle.ms_ground.specs.Access.{reaches as reached_by};
 ghost use Rattle.ms_ground.specs.Extreme.{extreme_at as operation_of};
@@ -11,8 +11,10 @@ ghost use Rattle.ms_ground.specs.Fit.{is_fit, numbers, truths, sums_fit, checked
 use crate::access::{Access, reaches};
 use crate::extreme::Extreme;
 use crate::numbers::{
-    are_equal, difference, magnitude, negated, one_if_same, pair, product, quotient, remainder, sum,
+    are_equal, differ, difference, is_entry, magnitude, negated, one_if_same, pair, product,
+    quotient, remainder, sum,
 };
+use crate::table::Row;
 use crate::tree::Ground;
 use ms_num::Iv;
 
@@ -128,6 +130,8 @@ pub fn holds(g: &Ground, point: &[i64]) -> bool
             Some(x) => ranges.has(x),
             None => false,
         },
+        Ground::AllDiff(parts) => all_differ(parts.as_slice(), point),
+        Ground::Table(parts, rows) => is_some_row(parts.as_slice(), rows.as_slice(), point),
         _ => false,
     }
 }
@@ -216,4 +220,66 @@ fn some_holds(parts: &[Ground], point: &[i64]) -> bool
         }
     }
     false
+}
+
+#[cycle(meaning)]
+fn all_differ(parts: &[Ground], point: &[i64]) -> bool
+    requires { IsTrue (numbers (map (checked (points point.now)) parts.now)) }
+    ensures { result ≡ are_distinct (map (value point.now) parts.now) }
+{
+    for place in 0..parts.len() {
+        if !differs_from_later(parts, place, point) {
+            return false;
+        }
+    }
+    true
+}
+
+// The part at the place is a number, and no later part is the same.
+#[cycle(meaning)]
+fn differs_from_later(parts: &[Ground], place: usize, point: &[i64]) -> bool
+    requires fit { IsTrue (numbers (map (checked (points point.now)) (drop place parts.now))) }
+    requires place { place < length parts.now }
+    ensures { result ≡ first_differs (map (value point.now) (drop place parts.now)) }
+{
+    let x = value_at(&parts[place], point);
+    if x.is_none() {
+        return false;
+    }
+    for later in place + 1..parts.len() {
+        if !differ(x, value_at(&parts[later], point)) {
+            return false;
+        }
+    }
+    true
+}
+
+#[cycle(meaning)]
+fn is_some_row(parts: &[Ground], rows: &[Row], point: &[i64]) -> bool
+    requires { IsTrue (numbers (map (checked (points point.now)) parts.now)) }
+    ensures { result ≡ list_any (is_row (map (value point.now) parts.now)) rows.now }
+{
+    for row in rows {
+        if are_numbers(parts, row.as_slice(), point) {
+            return true;
+        }
+    }
+    false
+}
+
+// The parts are the numbers, one by one.
+#[cycle(meaning)]
+fn are_numbers(parts: &[Ground], row: &[i64], point: &[i64]) -> bool
+    requires { IsTrue (numbers (map (checked (points point.now)) parts.now)) }
+    ensures { result ≡ is_row (map (value point.now) parts.now) row.now }
+{
+    if parts.len() != row.len() {
+        return false;
+    }
+    for place in 0..parts.len() {
+        if !is_entry(value_at(&parts[place], point), row, place) {
+            return false;
+        }
+    }
+    true
 }

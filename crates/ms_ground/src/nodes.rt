@@ -33,7 +33,8 @@ pub fn size(g: &Ground) -> u64
         | Ground::Least(parts)
         | Ground::Greatest(parts)
         | Ground::And(parts)
-        | Ground::Or(parts) => size_all(parts.as_slice()).saturating_add(1),
+        | Ground::Or(parts)
+        | Ground::AllDiff(parts) => size_all(parts.as_slice()).saturating_add(1),
         Ground::Elem(_, parts, index) => size_all(parts.as_slice())
             .saturating_add(size(index.get()))
             .saturating_add(1),
@@ -50,6 +51,9 @@ pub fn size(g: &Ground) -> u64
             .saturating_add(1),
         Ground::In(a, ranges) => size(a.get())
             .saturating_add(ranges.ranges().len() as u64)
+            .saturating_add(1),
+        Ground::Table(parts, rows) => size_all(parts.as_slice())
+            .saturating_add(rows.numbers())
             .saturating_add(1),
     }
 }
@@ -92,7 +96,9 @@ pub fn nesting(g: &Ground) -> u64
         | Ground::Least(parts)
         | Ground::Greatest(parts)
         | Ground::And(parts)
-        | Ground::Or(parts) => deepest_of(parts.as_slice()).saturating_add(1),
+        | Ground::Or(parts)
+        | Ground::AllDiff(parts)
+        | Ground::Table(parts, _) => deepest_of(parts.as_slice()).saturating_add(1),
         Ground::Elem(_, parts, index) => deepest_of(parts.as_slice())
             .max(nesting(index.get()))
             .saturating_add(1),

@@ -1,4 +1,4 @@
-ghost use Rattle.std.specs.Prelude.{◌≡◌, ℕ, Option, Some, ◌+ℤ◌, ◌-ℤ◌, ◌*ℤ◌, neg_ℤ, pos, unsigned_abs, if◌then◌else◌};
+ghost use Rattle.std.specs.Prelude.{◌≡◌, ◌<◌, ℕ, length, slice_index_or, Option, ◌+ℤ◌, ◌-ℤ◌, ◌*ℤ◌, neg_ℤ, pos, unsigned_abs, if◌then◌else◌};
 ghost use Rattle.ms_num.specs.Numbers.{div_at, mod_at, int_eq};
 ghost use Rattle.ms_ground.specs.Value.{iff, int_ne, compare, pair as pair_of, test};
 ghost use Rattle.ms_ground.specs.Fit.{IsWithin};
@@ -65,20 +65,22 @@ pub fn pair(x: Option<i64>, y: Option<i64>) -> Option<(i64, i64)>
 }
 
 /// Both are numbers, and not the same.
-pub fn differ(x: i64, y: Option<i64>) -> bool
-    ensures { result ≡ compare int_ne (Some x) y }
+pub fn differ(x: Option<i64>, y: Option<i64>) -> bool
+    ensures { result ≡ compare int_ne x y }
 {
-    match y {
-        Some(y) => x != y,
-        None => false,
+    match (x, y) {
+        (Some(x), Some(y)) => x != y,
+        _ => false,
     }
 }
 
-pub fn is_number(x: Option<i64>, n: i64) -> bool
-    ensures { result ≡ test (λ x. int_eq x n) x }
+/// The number is that of the row at the place.
+pub fn is_entry(x: Option<i64>, row: &[i64], place: usize) -> bool
+    requires { place < length row.now }
+    ensures { result ≡ test (λ x. int_eq x (slice_index_or row.now place (pos 0))) x }
 {
     match x {
-        Some(x) => x == n,
+        Some(x) => x == row[place],
         None => false,
     }
 }

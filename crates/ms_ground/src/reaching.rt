@@ -1,18 +1,22 @@
-ghost use Rattle.std.specs.Prelude.{◌≡◌, IsTrue, Some, pos, map, ◌||◌, IfSome};
+ghost use Rattle.std.specs.Prelude.{◌≡◌, ◌<◌, IsTrue, Some, pos, map, ◌||◌, ◌&&◌, not, IfSome, length, drop};
+ghost use Rattle.std.specs.List.{list_any};
 ghost use Rattle.ms_num.specs.Span.{IsInterval, add_span, point as single};
-ghost use Rattle.ms_ground.specs.Reach.{reach, hull_of, folded, any_undefined, all_yes, any_no, any_yes, all_no, extreme, selected, counted, all_some, some_meet, have_room, rowed, numeric as numeric_of, boolean as boolean_of};
+ghost use Rattle.ms_ground.specs.Reach.{reach, hull_of, folded, any_undefined, all_yes, any_no, any_yes, all_no, extreme, selected, counted, all_some, some_meet, has_room, room_from, have_room, some_several, may_be_row, test, numeric as numeric_of, boolean as boolean_of};
 ghost use Rattle.ms_ground.specs.Access.{reaches as reached_by};
 ghost use Rattle.ms_ground.specs.Extreme.{extreme_span as operation_of};
 ghost use Rattle.ms_ground.specs.Fit.{is_fit, numbers, truths, sums_fit, checked};
+ghost use Rattle.ms_ground.specs.Room.{first_meets};
 
 use crate::access::{Access, misses, misses_grid, reaches};
 use crate::extreme::Extreme;
 use crate::numbers::one_if;
+use crate::room::{admits, between, has_many, is_unsure, lies_in};
 use crate::spans::{
     are_one, at_most, bits, boolean, difference, either, either_of_truths, equal, equivalence,
     exclusive, gather, implication, less, magnitude, meets, membership, negated, numeric, product,
-    quotient, remainder, sum, unequal,
+    quotient, remainder, sum, tabled, unequal,
 };
+use crate::table::Row;
 use crate::tree::{Ground, Hull, Reach};
 use ms_num::Iv;
 
@@ -125,6 +129,14 @@ fn truths_on(g: &Ground, sets: &[Iv]) -> Reach
             either_of_truths(c, truths_on(a.get(), sets), truths_on(b.get(), sets))
         }
         Ground::In(a, ranges) => membership(numbers_on(a.get(), sets), ranges),
+        Ground::AllDiff(parts) => {
+            let yes = all_have_room(parts.as_slice(), sets);
+            boolean(yes, some_meet_on(parts.as_slice(), sets))
+        }
+        Ground::Table(parts, rows) => {
+            let fits = some_row_on(parts.as_slice(), rows.as_slice(), sets);
+            tabled(fits, some_unsure_on(parts.as_slice(), sets))
+        }
         _ => boolean(false, false),
     }
 }
@@ -226,4 +238,130 @@ fn any_on(parts: &[Ground], sets: &[Iv]) -> Reach
         no &= x.no;
     }
     boolean(yes, no)
+}
+
+// Each part has an interval, and each range between two ends has room.
+#[cycle(reach)]
+fn all_have_room(parts: &[Ground], sets: &[Iv]) -> bool
+    requires { IsTrue (numbers (map (checked sets.now) parts.now)) }
+    ensures { result ≡ (all_some (map (reach sets.now) parts.now) && have_room (map (reach sets.now) parts.now)) }
+{
+    for part in parts {
+        let Some(start) = numbers_on(part, sets).numbers else {
+            return false;
+        };
+        if !has_room_from(parts, start, sets) {
+            return false;
+        }
+    }
+    true
+}
+
+#[cycle(reach)]
+fn has_room_from(parts: &[Ground], start: Iv, sets: &[Iv]) -> bool
+    requires { IsTrue (numbers (map (checked sets.now) parts.now)) }
+    ensures { result ≡ room_from (map (reach sets.now) parts.now) (Some start) }
+{
+    for part in parts {
+        let range = between(start, numbers_on(part, sets).numbers);
+        if !has_room_on(parts, range, sets) {
+            return false;
+        }
+    }
+    true
+}
+
+// The range, if there is one, holds the intervals of no more parts than it has numbers.
+#[cycle(reach)]
+fn has_room_on(parts: &[Ground], range: Option<Iv>, sets: &[Iv]) -> bool
+    requires { IsTrue (numbers (map (checked sets.now) parts.now)) }
+    ensures { result ≡ not (test (λ s. not (has_room s.lo s.hi (map (reach sets.now) parts.now))) range) }
+{
+    let Some(range) = range else {
+        return true;
+    };
+    if has_many(range, parts.len()) {
+        return true;
+    }
+    let mut held = 0usize;
+    for part in parts {
+        held += one_if(lies_in(numbers_on(part, sets).numbers, range));
+    }
+    has_many(range, held)
+}
+
+// A part may be undefined, or the intervals of two parts meet.
+#[cycle(reach)]
+fn some_meet_on(parts: &[Ground], sets: &[Iv]) -> bool
+    requires { IsTrue (numbers (map (checked sets.now) parts.now)) }
+    ensures { result ≡ (any_undefined (map (reach sets.now) parts.now) || some_meet (map (reach sets.now) parts.now)) }
+{
+    for place in 0..parts.len() {
+        if first_meets_on(parts, place, sets) {
+            return true;
+        }
+    }
+    false
+}
+
+#[cycle(reach)]
+fn first_meets_on(parts: &[Ground], place: usize, sets: &[Iv]) -> bool
+    requires fit { IsTrue (numbers (map (checked sets.now) (drop place parts.now))) }
+    requires place { place < length parts.now }
+    ensures { result ≡ first_meets (map (reach sets.now) (drop place parts.now)) }
+{
+    let x = numbers_on(&parts[place], sets);
+    if x.undefined {
+        return true;
+    }
+    for later in place + 1..parts.len() {
+        if meets(x.numbers, numbers_on(&parts[later], sets).numbers) {
+            return true;
+        }
+    }
+    false
+}
+
+#[cycle(reach)]
+fn some_row_on(parts: &[Ground], rows: &[Row], sets: &[Iv]) -> bool
+    requires { IsTrue (numbers (map (checked sets.now) parts.now)) }
+    ensures { result ≡ list_any (may_be_row (map (reach sets.now) parts.now)) rows.now }
+{
+    for row in rows {
+        if admit_row(parts, row.as_slice(), sets) {
+            return true;
+        }
+    }
+    false
+}
+
+// The intervals of the parts have the numbers, one by one.
+#[cycle(reach)]
+fn admit_row(parts: &[Ground], row: &[i64], sets: &[Iv]) -> bool
+    requires { IsTrue (numbers (map (checked sets.now) parts.now)) }
+    ensures { result ≡ may_be_row (map (reach sets.now) parts.now) row.now }
+{
+    if parts.len() != row.len() {
+        return false;
+    }
+    for place in 0..parts.len() {
+        if !admits(numbers_on(&parts[place], sets).numbers, row, place) {
+            return false;
+        }
+    }
+    true
+}
+
+// A part may be undefined, or has two numbers or more.
+#[cycle(reach)]
+fn some_unsure_on(parts: &[Ground], sets: &[Iv]) -> bool
+    requires { IsTrue (numbers (map (checked sets.now) parts.now)) }
+    ensures { result ≡ (any_undefined (map (reach sets.now) parts.now) || some_several (map (reach sets.now) parts.now)) }
+{
+    for part in parts {
+        if is_unsure(numbers_on(part, sets)) {
+            return true;
+        }
+    }
+    false
 }

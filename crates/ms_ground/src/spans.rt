@@ -312,6 +312,13 @@ pub fn membership(x: Reach, ranges: &Ranges) -> Reach
     }
 }
 
+/// The truth values of a table: whether a row fits, and whether the parts may be undefined or something else.
+pub fn tabled(fits: bool, unsure: bool) -> Reach
+    ensures { result ≡ boolean_of fits (unsure || not fits) }
+{
+    boolean(fits, unsure || !fits)
+}
+
 fn meets_some(x: Iv, ranges: &[Iv]) -> bool
     ensures { result ≡ may_be_in ranges.now x }
 {

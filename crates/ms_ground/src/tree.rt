@@ -58,6 +58,10 @@ pub enum Ground {
     IteB(Boxed<Ground>, Boxed<Ground>, Boxed<Ground>),
     /// The number lies in the set.
     In(Boxed<Ground>, Ranges),
+    /// Each part is a number, and no two are the same.
+    AllDiff(Items<Ground>),
+    /// The parts are the numbers of one of the rows.
+    Table(Items<Ground>, Rows),
 }
 
 /// What a tree may mean on the assignments of a box: its numbers, if any, and whether it may be undefined; or

@@ -1,17 +1,21 @@
-use Rattle.std.proofs.Common.{◌≡◌, ℕ, ◌+◌, ◌&&◌, Bool, List, [], Some, None, map, drop, length, add-zero, of_z, refl, arith, ◌∙◌, sym, ap, rules, to_z, w64, SFits}
+use Rattle.std.proofs.Common.{◌≡◌, ℕ, ◌+◌, ◌&&◌, Bool, true, not, get_or, pos, List, [], Some, None, map, drop, length, add-zero, of_z, refl, arith, ◌∙◌, sym, ap, rules, to_z, w64, SFits}
 use Rattle.std.specs.Prelude.{is_some, if◌then◌else◌}
 use Rattle.std.proofs.lemmas.Int.{to_z-of_z, to_z_pos}
 use Rattle.std.proofs.lemmas.List.{drop_all}
 use Rattle.ms_num.specs.Numbers.{int_eq}
 use Rattle.std.proofs.Math.ListN.{length-map}
 use Rattle.ms_num.specs.Span.{point}
-use Rattle.ms_ground.specs.Value.{Meaning, value, selected, is_place, compare, how_many, all_defined}
+use Rattle.std.specs.List.{list_any, list_all}
+use Rattle.ms_ground.specs.Value.{Meaning, value, selected, is_place, compare, int_ne, how_many, all_defined, first_differs, are_distinct, is_row}
 use Rattle.ms_ground.specs.Reach.{points}
 use Rattle.ms_ground.specs.Extreme.{extreme_at}
 use Rattle.ms_ground.specs.Access.{reaches}
 use Rattle.ms_ground.specs.declared.tree.Ground.TheFolds.{the_lemmas}
-use Rattle.ms_ground.proofs.Fits.{fit-Abs, fit-Add, fit-And, fit-BVar, fit-Count, fit-Div, fit-Elem, fit-Elem2, fit-Eq, fit-Greatest, fit-Iff, fit-Imp, fit-In, fit-IteB, fit-IteI, fit-Le, fit-Least, fit-Lt, fit-Mod, fit-Mul, fit-Ne, fit-Neg, fit-Not, fit-Or, fit-Sub, fit-Sum, fit-ToInt, fit-Var, fit-Xor, fit-sums, within-Add, within-Sub, within-Mul, drop_here, sums_on, sum_none, holds_on}
+use Rattle.ms_ground.proofs.Fits.{fit-Abs, fit-Add, fit-AllDiff, fit-And, fit-BVar, fit-Count, fit-Div, fit-Elem, fit-Elem2, fit-Eq, fit-Greatest, fit-Iff, fit-Imp, fit-In, fit-IteB, fit-IteI, fit-Le, fit-Least, fit-Lt, fit-Mod, fit-Mul, fit-Ne, fit-Neg, fit-Not, fit-Or, fit-Sub, fit-Sum, fit-Table, fit-ToInt, fit-Var, fit-Xor, fit-sums, within-Add, within-Sub, within-Mul, drop_here, sums_on, sum_none, holds_on}
 use Rattle.ms_ground.proofs.Walks.{within_test, number_within, first_of_pair, onward_one, onward_none, onward_number, numbers_on, counted_one, not_counted, all_counted, unselected, unselected2, elem_value, elem2_value, second_of_pair, next_place, at_most_one, count_within, count_fits}
+use Rattle.ms_ground.proofs.Bools.{ap2}
+use Rattle.ms_ground.proofs.Distinct.{distinct_on, first_part, pass_on}
+use Rattle.ms_ground.proofs.Rowed.{no_row, row_at, entry_here}
 use Rattle.ms_ground.proofs.meaning.+meaning.Goals as goal
 
 pub value_at-value_at-requires : goal.value_at-value_at-requires
@@ -382,3 +386,105 @@ all_hold-loop-part-preserved t c =
     let on = holds_on c.args.point.now _ _ c.part-item.result (drop_here c.args.parts.now l.part-index c.part-item.result (omega arith) c.part-item.is) l.invariant.fit in
     let true_here = sym c.holds.ensures ∙ c.if-not-holds.false in
     record { fit = on.fit; rest = rw true_here at (sym on.all) ∙ l.invariant.rest }
+
+pub holds-all_differ-requires : goal.holds-all_differ-requires
+holds-all_differ-requires t c = (search (rules, the_lemmas), rw c.as_slice-in-AllDiff.ensures (fit-AllDiff _ _ (rw c.in-AllDiff.is at c.requires)))
+
+pub holds-is_some_row-requires : goal.holds-is_some_row-requires
+holds-is_some_row-requires t c = (search (rules, the_lemmas), rw c.as_slice-in-Table.ensures (fit-Table _ _ _ (rw c.in-Table.is at c.requires)))
+
+pub all_differ-loop-place-preserved : goal.all_differ-loop-place-preserved
+all_differ-loop-place-preserved t c =
+    let l = c.loop-place in
+    let on = distinct_on c.args.point.now c.args.parts.now l.place c.loop-place-test.true l.invariant.fit in
+    let passes = sym c.differs_from_later.ensures ∙ c.if-not-differs_from_later.false in
+    record { fit = on.fit; rest = rw passes at (sym on.turn) ∙ l.invariant.rest }
+
+pub all_differ-returns-then-not-differs_from_later : goal.all_differ-returns-then-not-differs_from_later
+all_differ-returns-then-not-differs_from_later t c =
+    let l = c.loop-place in
+    let on = distinct_on c.args.point.now c.args.parts.now l.place c.loop-place-test.true l.invariant.fit in
+    let fails = sym c.differs_from_later.ensures ∙ c.if-not-differs_from_later.true in
+    rw fails at (sym on.turn) ∙ l.invariant.rest
+
+pub all_differ-returns : goal.all_differ-returns
+all_differ-returns t c =
+    let l = c.loop-place in
+    let none : drop l.place c.args.parts.now ≡ [] = drop_all l.place c.args.parts.now c.loop-place-test.false in
+    sym (ap (λ zs. are_distinct (map (value c.args.point.now) zs)) none) ∙ l.invariant.rest
+
+pub differs_from_later-loop-later-init : goal.differs_from_later-loop-later-init
+differs_from_later-loop-later-init t c =
+    let x = c.index-parts-place.result in
+    let here = drop_here c.args.parts.now c.args.place x c.requires.place c.index-parts-place.is in
+    let on = numbers_on c.args.point.now _ _ x here c.requires.fit in
+    let some = c.is_none.ensures ∙ ap not c.if-is_none.false in
+    record { fit = on.fit; rest = first_part c.args.point.now _ _ x c.value_at-x.result true here c.value_at-x.ensures some }
+
+pub differs_from_later-loop-later-preserved : goal.differs_from_later-loop-later-preserved
+differs_from_later-loop-later-preserved t c =
+    let l = c.loop-later in
+    let x = c.index-parts-later.result in
+    let here = drop_here c.args.parts.now l.later x c.loop-later-test.true c.index-parts-later.is in
+    let differs = rw c.value_at.ensures at c.differ.ensures in
+    let on = pass_on c.args.point.now _ _ x (λ m. compare int_ne c.value_at-x.result m.number) c.differ.result here differs l.invariant.fit in
+    record { fit = on.fit; rest = rw c.if-not-differ.false at (sym on.all) ∙ l.invariant.rest }
+
+pub differs_from_later-returns-then-not-differ : goal.differs_from_later-returns-then-not-differ
+differs_from_later-returns-then-not-differ t c =
+    let l = c.loop-later in
+    let x = c.index-parts-later.result in
+    let here = drop_here c.args.parts.now l.later x c.loop-later-test.true c.index-parts-later.is in
+    let differs = rw c.value_at.ensures at c.differ.ensures in
+    let on = pass_on c.args.point.now _ _ x (λ m. compare int_ne c.value_at-x.result m.number) c.differ.result here differs l.invariant.fit in
+    rw c.if-not-differ.true at (sym on.all) ∙ l.invariant.rest
+
+pub differs_from_later-returns : goal.differs_from_later-returns
+differs_from_later-returns t c =
+    let l = c.loop-later in
+    let none : drop l.later c.args.parts.now ≡ [] = drop_all l.later c.args.parts.now c.loop-later-test.false in
+    sym (ap (λ zs. list_all (λ (m : Meaning). compare int_ne c.value_at-x.result m.number) (map (value c.args.point.now) zs)) none) ∙ l.invariant.rest
+
+pub is_some_row-loop-row-preserved : goal.is_some_row-loop-row-preserved
+is_some_row-loop-row-preserved t c =
+    let l = c.loop-row in
+    let row = c.row-item.result in
+    let here = drop_here c.args.rows.now l.row-index row (omega arith) c.row-item.is in
+    let other = sym (rw c.as_slice.ensures at c.are_numbers.ensures) ∙ c.if-are_numbers.false in
+    rw other at (sym (ap (list_any (is_row (map (value c.args.point.now) c.args.parts.now))) here)) ∙ l.invariant
+
+pub is_some_row-returns : goal.is_some_row-returns
+is_some_row-returns t c =
+    let l = c.loop-row in
+    let none : drop l.row-index c.args.rows.now ≡ [] = drop_all l.row-index c.args.rows.now c.loop-row-test.false in
+    sym (ap (list_any (is_row (map (value c.args.point.now) c.args.parts.now))) none) ∙ l.invariant
+
+pub are_numbers-returns-then-parts-row : goal.are_numbers-returns-then-parts-row
+are_numbers-returns-then-parts-row t c = no_row c.args.point.now c.args.parts.now c.args.row.now c.if-parts-row.true
+
+pub are_numbers-loop-place-preserved : goal.are_numbers-loop-place-preserved
+are_numbers-loop-place-preserved t c =
+    let l = c.loop-place in
+    let x = c.index-parts-place.result in
+    let here = drop_here c.args.parts.now l.place x c.loop-place-test.true c.index-parts-place.is in
+    let there = entry_here c.args.row.now l.place (omega (arith, c.loop-place-test.true, c.if-parts-row.false)) in
+    let same = rw c.value_at.ensures at c.is_entry.ensures in
+    let on = row_at c.args.point.now _ _ x _ _ (get_or c.args.row.now l.place (pos 0)) c.is_entry.result here there same l.invariant.fit in
+    record { fit = on.fit; rest = rw c.if-not-is_entry.false at (sym on.turn) ∙ l.invariant.rest }
+
+pub are_numbers-returns-then-not-is_entry : goal.are_numbers-returns-then-not-is_entry
+are_numbers-returns-then-not-is_entry t c =
+    let l = c.loop-place in
+    let x = c.index-parts-place.result in
+    let here = drop_here c.args.parts.now l.place x c.loop-place-test.true c.index-parts-place.is in
+    let there = entry_here c.args.row.now l.place (omega (arith, c.loop-place-test.true, c.if-parts-row.false)) in
+    let same = rw c.value_at.ensures at c.is_entry.ensures in
+    let on = row_at c.args.point.now _ _ x _ _ (get_or c.args.row.now l.place (pos 0)) c.is_entry.result here there same l.invariant.fit in
+    rw c.if-not-is_entry.true at (sym on.turn) ∙ l.invariant.rest
+
+pub are_numbers-returns : goal.are_numbers-returns
+are_numbers-returns t c =
+    let l = c.loop-place in
+    let none : drop l.place c.args.parts.now ≡ [] = drop_all l.place c.args.parts.now c.loop-place-test.false in
+    let end : drop l.place c.args.row.now ≡ [] = drop_all l.place c.args.row.now (omega (arith, c.loop-place-test.false, c.if-parts-row.false)) in
+    sym (ap2 (λ zs ws. is_row (map (value c.args.point.now) zs) ws) none end) ∙ l.invariant.rest

@@ -1,7 +1,8 @@
 use Rattle.std.proofs.Common.{◌≡◌, ℕ, ◌+◌, ◌<◌, ◌≤◌, true, ◌&&◌, Some, map, drop, pos, length, get_or}
 use Rattle.ms_num.specs.Numbers.{add_at, int_eq}
 use Rattle.ms_num.specs.Span.{point}
-use Rattle.ms_ground.specs.Value.{Meaning, value, folded, extreme, selected, all_defined, how_many, compare, all_true, any_true}
+use Rattle.std.specs.List.{list_any, list_all}
+use Rattle.ms_ground.specs.Value.{Meaning, value, folded, extreme, selected, all_defined, how_many, compare, int_ne, all_true, any_true, first_differs, are_distinct, is_row}
 use Rattle.ms_ground.specs.Reach.{reach, points}
 use Rattle.ms_ground.specs.Access.{reaches}
 use Rattle.ms_ground.specs.Extreme.{extreme_at, onward}
@@ -45,4 +46,25 @@ abbrev pub invariant-some_holds-loop-part : goal.invariant-some_holds-loop-part
 invariant-some_holds-loop-part l = record {
   fit : truths (map (checked (points l.point)) (drop l.part-index l.parts)) ≡ true;
   rest : any_true (map (value l.point) (drop l.part-index l.parts)) ≡ any_true (map (value l.point) l.parts);
+}
+
+abbrev pub invariant-all_differ-loop-place : goal.invariant-all_differ-loop-place
+invariant-all_differ-loop-place l = record {
+  fit : numbers (map (checked (points l.point)) (drop l.place l.parts)) ≡ true;
+  rest : are_distinct (map (value l.point) (drop l.place l.parts)) ≡ are_distinct (map (value l.point) l.parts);
+}
+
+abbrev pub invariant-differs_from_later-loop-later : goal.invariant-differs_from_later-loop-later
+invariant-differs_from_later-loop-later l = record {
+  fit : numbers (map (checked (points l.point)) (drop l.later l.parts)) ≡ true;
+  rest : list_all (λ (m : Meaning). compare int_ne l.x m.number) (map (value l.point) (drop l.later l.parts)) ≡ first_differs (map (value l.point) (drop l.place l.parts));
+}
+
+abbrev pub invariant-is_some_row-loop-row : goal.invariant-is_some_row-loop-row
+invariant-is_some_row-loop-row l = list_any (is_row (map (value l.point) l.parts)) (drop l.row-index l.rows) ≡ list_any (is_row (map (value l.point) l.parts)) l.rows
+
+abbrev pub invariant-are_numbers-loop-place : goal.invariant-are_numbers-loop-place
+invariant-are_numbers-loop-place l = record {
+  fit : numbers (map (checked (points l.point)) (drop l.place l.parts)) ≡ true;
+  rest : is_row (map (value l.point) (drop l.place l.parts)) (drop l.place l.row) ≡ is_row (map (value l.point) l.parts) l.row;
 }

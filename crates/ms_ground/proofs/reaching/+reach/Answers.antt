@@ -1,4 +1,4 @@
-use Rattle.std.proofs.Common.{◌≡◌, ℕ, ◌+◌, Bool, false, ◌&&◌, ◌||◌, List, [], Some, None, map, drop, get_or, arith, ap, ◌∙◌, sym, rules, w64, SFits}
+use Rattle.std.proofs.Common.{◌≡◌, ℕ, ◌+◌, Bool, true, false, not, ◌&&◌, ◌||◌, List, [], Some, None, map, drop, get_or, arith, ap, ◌∙◌, sym, rules, w64, SFits}
 use Rattle.std.specs.Prelude.{pos, is_some, if◌then◌else◌}
 use Rattle.std.proofs.lemmas.Int.{to_z-of_z}
 use Rattle.std.proofs.lemmas.List.{drop_all}
@@ -7,13 +7,16 @@ use Rattle.ms_ground.specs.Reach as r
 use Rattle.ms_ground.specs.Reach.{reach}
 use Rattle.ms_ground.specs.Access.{reaches}
 use Rattle.ms_ground.specs.Extreme.{extreme_span, onward_on}
+use Rattle.ms_ground.specs.Room.{lies_in}
 use Rattle.ms_ground.specs.declared.tree.Reach.{Reach}
 use Rattle.ms_ground.specs.declared.tree.Ground.TheFolds.{the_lemmas}
 use Rattle.ms_ground.proofs.Bools.{ap2, or_none}
-use Rattle.ms_ground.proofs.Fits.{fit-Abs, fit-Add, fit-And, fit-BVar, fit-Count, fit-Div, fit-Elem, fit-Elem2, fit-Eq, fit-Greatest, fit-Iff, fit-Imp, fit-In, fit-IteB, fit-IteI, fit-Le, fit-Least, fit-Lt, fit-Mod, fit-Mul, fit-Ne, fit-Neg, fit-Not, fit-Or, fit-Sub, fit-Sum, fit-ToInt, fit-Var, fit-Xor, fit-sums, fits-Num, fits-Add, fits-Sub, fits-Mul, drop_here, spans_on, truths_on, read_default}
+use Rattle.ms_ground.proofs.Fits.{fit-Abs, fit-Add, fit-AllDiff, fit-And, fit-BVar, fit-Count, fit-Div, fit-Elem, fit-Elem2, fit-Eq, fit-Greatest, fit-Iff, fit-Imp, fit-In, fit-IteB, fit-IteI, fit-Le, fit-Least, fit-Lt, fit-Mod, fit-Mul, fit-Ne, fit-Neg, fit-Not, fit-Or, fit-Sub, fit-Sum, fit-Table, fit-ToInt, fit-Var, fit-Xor, fit-sums, fits-Num, fits-Add, fits-Sub, fits-Mul, drop_here, spans_on, truths_on, read_default}
 use Rattle.ms_ground.proofs.Walks.{counted_one, at_most_one}
 use Rattle.ms_ground.proofs.Boxes.{PlaceOn, parts_on, onward_end, join_end, place_taken, place_passed, elem_reach, elem2_reach, count_interval}
 use Rattle.ms_ground.proofs.Smaller.{truth_some}
+use Rattle.ms_ground.proofs.Distinct.{spans_over, meets_on, between_room, counted_room, wide_room}
+use Rattle.ms_ground.proofs.Rowed.{no_row_on, row_on, entry_here}
 use Rattle.ms_ground.proofs.reaching.+reach.Goals as goal
 use Rattle.ms_ground.proofs.reaching.+reach.Goals.{selected_on-then-reaches, selected_on-else-reaches}
 
@@ -295,3 +298,106 @@ any_on-loop-part-preserved t c =
     let l = c.loop-part in
     let on = truths_on c.args.sets.now _ _ c.part-item.result c.truths_on-x.result (drop_here c.args.parts.now l.part-index c.part-item.result (omega arith) c.part-item.is) c.truths_on-x.ensures l.invariant.fit in
     record { fit = on.fit; yes = sym (on.any_yes l.yes) ∙ l.invariant.yes; no = sym (on.all_no l.no) ∙ l.invariant.no }
+
+pub truths_on-all_have_room-yes-requires : goal.truths_on-all_have_room-yes-requires
+truths_on-all_have_room-yes-requires t c = (search (rules, the_lemmas), rw c.as_slice-in-AllDiff.ensures (fit-AllDiff _ _ (rw c.in-AllDiff.is at c.requires)))
+
+pub truths_on-some_meet_on-requires : goal.truths_on-some_meet_on-requires
+truths_on-some_meet_on-requires t c = (search (rules, the_lemmas), rw c.as_slice-in-AllDiff-2.ensures (fit-AllDiff _ _ (rw c.in-AllDiff.is at c.requires)))
+
+pub truths_on-some_row_on-fits-requires : goal.truths_on-some_row_on-fits-requires
+truths_on-some_row_on-fits-requires t c = (search (rules, the_lemmas), rw c.as_slice-in-Table.ensures (fit-Table _ _ _ (rw c.in-Table.is at c.requires)))
+
+pub truths_on-some_unsure_on-requires : goal.truths_on-some_unsure_on-requires
+truths_on-some_unsure_on-requires t c = (search (rules, the_lemmas), rw c.as_slice-in-Table-3.ensures (fit-Table _ _ _ (rw c.in-Table.is at c.requires)))
+
+pub all_have_room-loop-part-preserved : goal.all_have_room-loop-part-preserved
+all_have_room-loop-part-preserved t c =
+    let l = c.loop-part in
+    let q = c.numbers_on.result in
+    let rs = map (reach c.args.sets.now) c.args.parts.now in
+    let on = spans_over c.args.sets.now _ _ c.part-item.result q (drop_here c.args.parts.now l.part-index c.part-item.result (omega arith) c.part-item.is) c.numbers_on.ensures l.invariant.fit in
+    let some : is_some q.numbers ≡ true = ap (λ o. is_some o) c.in-Some.is in
+    let room : r.room_from rs q.numbers ≡ true = ap (r.room_from rs) c.in-Some.is ∙ sym c.has_room_from.ensures ∙ c.if-not-has_room_from.false in
+    record { fit = on.fit; rest = sym (ap2 (λ x y. x && y) (on.all (λ o. is_some o) true (sym some)) (on.all (r.room_from rs) true (sym room))) ∙ l.invariant.rest }
+
+pub has_room_from-loop-part-preserved : goal.has_room_from-loop-part-preserved
+has_room_from-loop-part-preserved t c =
+    let l = c.loop-part in
+    let q = c.numbers_on.result in
+    let rs = map (reach c.args.sets.now) c.args.parts.now in
+    let on = spans_over c.args.sets.now _ _ c.part-item.result q (drop_here c.args.parts.now l.part-index c.part-item.result (omega arith) c.part-item.is) c.numbers_on.ensures l.invariant.fit in
+    let room = rw c.between-range.ensures at c.has_room_on.ensures ∙ between_room rs c.args.start q.numbers in
+    record { fit = on.fit; rest = rw c.if-not-has_room_on.false at (sym (on.all (λ o. not (r.compare (λ s t. not (r.has_room s.lo t.hi rs)) (Some c.args.start) o)) c.has_room_on.result room)) ∙ l.invariant.rest }
+
+pub has_room_on-returns-then-has_many : goal.has_room_on-returns-then-has_many
+has_room_on-returns-then-has_many t c = rw c.in-Some.is (wide_room c.in-Some.range c.args.sets.now c.args.parts.now (sym c.has_many.ensures.value ∙ c.if-has_many.true))
+
+pub has_room_on-loop-part-preserved : goal.has_room_on-loop-part-preserved
+has_room_on-loop-part-preserved t c =
+    let l = c.loop-part in
+    let q = c.numbers_on.result in
+    let range = c.in-Some.range in
+    let on = parts_on c.args.sets.now _ _ c.part-item.result q (drop_here c.args.parts.now l.part-index c.part-item.result (omega arith) c.part-item.is) c.numbers_on.ensures l.invariant.fit in
+    let one : c.one_if-held.result ≡ (if r.test (lies_in range) q.numbers then 1 else 0) = rw c.lies_in.ensures at c.one_if-held.ensures in
+    let few = at_most_one (r.test (lies_in range) q.numbers) c.one_if-held.result one in
+    record {
+      fit = on.fit;
+      few = omega (arith, few, l.invariant.few);
+      rest = counted_one (r.test (lies_in range) q.numbers) l.held c.one_if-held.result _ _ one (on.many (λ o. r.test (lies_in range) o)) ∙ l.invariant.rest;
+    }
+
+pub some_meet_on-loop-place-preserved : goal.some_meet_on-loop-place-preserved
+some_meet_on-loop-place-preserved t c =
+    let l = c.loop-place in
+    let on = meets_on c.args.sets.now c.args.parts.now l.place c.loop-place-test.true l.invariant.fit in
+    let apart = sym c.first_meets_on.ensures ∙ c.if-first_meets_on.false in
+    record { fit = on.fit; rest = rw apart at (sym on.turn) ∙ l.invariant.rest }
+
+pub first_meets_on-loop-later-init : goal.first_meets_on-loop-later-init
+first_meets_on-loop-later-init t c =
+    let x = c.index-parts-place.result in
+    let on = spans_over c.args.sets.now _ _ x c.numbers_on-x.result (drop_here c.args.parts.now c.args.place x c.requires.place c.index-parts-place.is) c.numbers_on-x.ensures c.requires.fit in
+    record { fit = on.fit; rest = rw c.if-x.false at (sym on.first) }
+
+pub first_meets_on-loop-later-preserved : goal.first_meets_on-loop-later-preserved
+first_meets_on-loop-later-preserved t c =
+    let l = c.loop-later in
+    let x = c.index-parts-later.result in
+    let on = spans_over c.args.sets.now _ _ x c.numbers_on.result (drop_here c.args.parts.now l.later x c.loop-later-test.true c.index-parts-later.is) c.numbers_on.ensures l.invariant.fit in
+    record { fit = on.fit; rest = rw c.if-meets.false at (sym (on.any (λ o. r.compare r.meets c.numbers_on-x.result.numbers o) c.meets.result c.meets.ensures)) ∙ l.invariant.rest }
+
+pub first_meets_on-returns-then-meets : goal.first_meets_on-returns-then-meets
+first_meets_on-returns-then-meets t c =
+    let l = c.loop-later in
+    let x = c.index-parts-later.result in
+    let on = spans_over c.args.sets.now _ _ x c.numbers_on.result (drop_here c.args.parts.now l.later x c.loop-later-test.true c.index-parts-later.is) c.numbers_on.ensures l.invariant.fit in
+    rw c.if-meets.true at (sym (on.any (λ o. r.compare r.meets c.numbers_on-x.result.numbers o) c.meets.result c.meets.ensures)) ∙ l.invariant.rest
+
+pub some_unsure_on-loop-part-preserved : goal.some_unsure_on-loop-part-preserved
+some_unsure_on-loop-part-preserved t c =
+    let l = c.loop-part in
+    let on = spans_over c.args.sets.now _ _ c.part-item.result c.numbers_on.result (drop_here c.args.parts.now l.part-index c.part-item.result (omega arith) c.part-item.is) c.numbers_on.ensures l.invariant.fit in
+    let sure = sym c.is_unsure.ensures ∙ c.if-is_unsure.false in
+    record { fit = on.fit; rest = rw sure at (sym on.unsure) ∙ l.invariant.rest }
+
+pub admit_row-returns-then-parts-row : goal.admit_row-returns-then-parts-row
+admit_row-returns-then-parts-row t c = no_row_on c.args.sets.now c.args.parts.now c.args.row.now c.if-parts-row.true
+
+pub admit_row-loop-place-preserved : goal.admit_row-loop-place-preserved
+admit_row-loop-place-preserved t c =
+    let l = c.loop-place in
+    let x = c.index-parts-place.result in
+    let here = drop_here c.args.parts.now l.place x c.loop-place-test.true c.index-parts-place.is in
+    let there = entry_here c.args.row.now l.place (omega (arith, c.loop-place-test.true, c.if-parts-row.false)) in
+    let on = row_on c.args.sets.now _ _ x c.numbers_on.result _ _ (get_or c.args.row.now l.place (pos 0)) c.admits.result here there c.numbers_on.ensures c.admits.ensures l.invariant.fit in
+    record { fit = on.fit; rest = rw c.if-not-admits.false at (sym on.turn) ∙ l.invariant.rest }
+
+pub admit_row-returns-then-not-admits : goal.admit_row-returns-then-not-admits
+admit_row-returns-then-not-admits t c =
+    let l = c.loop-place in
+    let x = c.index-parts-place.result in
+    let here = drop_here c.args.parts.now l.place x c.loop-place-test.true c.index-parts-place.is in
+    let there = entry_here c.args.row.now l.place (omega (arith, c.loop-place-test.true, c.if-parts-row.false)) in
+    let on = row_on c.args.sets.now _ _ x c.numbers_on.result _ _ (get_or c.args.row.now l.place (pos 0)) c.admits.result here there c.numbers_on.ensures c.admits.ensures l.invariant.fit in
+    rw c.if-not-admits.true at (sym on.turn) ∙ l.invariant.rest

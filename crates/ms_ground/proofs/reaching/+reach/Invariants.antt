@@ -1,8 +1,10 @@
-use Rattle.std.proofs.Common.{◌≡◌, ◌+◌, ◌≤◌, true, ◌&&◌, ◌||◌, Some, map, drop}
+use Rattle.std.proofs.Common.{◌≡◌, ◌+◌, ◌≤◌, true, not, ◌&&◌, ◌||◌, Some, map, drop}
 use Rattle.std.specs.Prelude.{pos}
 use Rattle.ms_num.specs.Span.{add_span, point, join_some}
 use Rattle.ms_ground.specs.Value.{how_many}
-use Rattle.ms_ground.specs.Reach.{reach, folded, any_undefined, all_yes, any_no, any_yes, all_no, all_some, extreme, joined, reached_undefined, compare, same_single, meets}
+use Rattle.std.specs.List.{list_any, list_all}
+use Rattle.ms_ground.specs.Room.{first_meets}
+use Rattle.ms_ground.specs.Reach.{reach, folded, any_undefined, all_yes, any_no, any_yes, all_no, all_some, extreme, joined, reached_undefined, compare, same_single, meets, has_room, room_from, held, some_meet, some_several, may_be_row}
 use Rattle.ms_ground.specs.Access.{reaches}
 use Rattle.ms_ground.specs.Extreme.{extreme_span, onward_on}
 use Rattle.ms_ground.specs.Fit.{numbers, truths, sums_fit, checked}
@@ -53,4 +55,52 @@ invariant-any_on-loop-part l = record {
   fit : truths (map (checked l.sets) (drop l.part-index l.parts)) ≡ true;
   yes : (l.yes || any_yes (map (reach l.sets) (drop l.part-index l.parts))) ≡ any_yes (map (reach l.sets) l.parts);
   no : (l.no && all_no (map (reach l.sets) (drop l.part-index l.parts))) ≡ all_no (map (reach l.sets) l.parts);
+}
+
+abbrev pub invariant-all_have_room-loop-part : goal.invariant-all_have_room-loop-part
+invariant-all_have_room-loop-part l = record {
+  fit : numbers (map (checked l.sets) (drop l.part-index l.parts)) ≡ true;
+  rest : (all_some (map (reach l.sets) (drop l.part-index l.parts)) && list_all (λ (x : Reach). room_from (map (reach l.sets) l.parts) x.numbers) (map (reach l.sets) (drop l.part-index l.parts)))
+      ≡ (all_some (map (reach l.sets) l.parts) && list_all (λ (x : Reach). room_from (map (reach l.sets) l.parts) x.numbers) (map (reach l.sets) l.parts));
+}
+
+abbrev pub invariant-has_room_from-loop-part : goal.invariant-has_room_from-loop-part
+invariant-has_room_from-loop-part l = record {
+  fit : numbers (map (checked l.sets) (drop l.part-index l.parts)) ≡ true;
+  rest : list_all (λ (x : Reach). not (compare (λ s t. not (has_room s.lo t.hi (map (reach l.sets) l.parts))) (Some l.start) x.numbers)) (map (reach l.sets) (drop l.part-index l.parts))
+      ≡ room_from (map (reach l.sets) l.parts) (Some l.start);
+}
+
+abbrev pub invariant-has_room_on-loop-part : goal.invariant-has_room_on-loop-part
+invariant-has_room_on-loop-part l = record {
+  fit : numbers (map (checked l.sets) (drop l.part-index l.parts)) ≡ true;
+  few : l.held ≤ l.part-index;
+  rest : l.held + held l.range.lo l.range.hi (map (reach l.sets) (drop l.part-index l.parts)) ≡ held l.range.lo l.range.hi (map (reach l.sets) l.parts);
+}
+
+abbrev pub invariant-some_meet_on-loop-place : goal.invariant-some_meet_on-loop-place
+invariant-some_meet_on-loop-place l = record {
+  fit : numbers (map (checked l.sets) (drop l.place l.parts)) ≡ true;
+  rest : (any_undefined (map (reach l.sets) (drop l.place l.parts)) || some_meet (map (reach l.sets) (drop l.place l.parts))) ≡ (any_undefined (map (reach l.sets) l.parts) || some_meet (map (reach l.sets) l.parts));
+}
+
+abbrev pub invariant-first_meets_on-loop-later : goal.invariant-first_meets_on-loop-later
+invariant-first_meets_on-loop-later l = record {
+  fit : numbers (map (checked l.sets) (drop l.later l.parts)) ≡ true;
+  rest : list_any (λ (x : Reach). compare meets l.x.0 x.numbers) (map (reach l.sets) (drop l.later l.parts)) ≡ first_meets (map (reach l.sets) (drop l.place l.parts));
+}
+
+abbrev pub invariant-some_row_on-loop-row : goal.invariant-some_row_on-loop-row
+invariant-some_row_on-loop-row l = list_any (may_be_row (map (reach l.sets) l.parts)) (drop l.row-index l.rows) ≡ list_any (may_be_row (map (reach l.sets) l.parts)) l.rows
+
+abbrev pub invariant-admit_row-loop-place : goal.invariant-admit_row-loop-place
+invariant-admit_row-loop-place l = record {
+  fit : numbers (map (checked l.sets) (drop l.place l.parts)) ≡ true;
+  rest : may_be_row (map (reach l.sets) (drop l.place l.parts)) (drop l.place l.row) ≡ may_be_row (map (reach l.sets) l.parts) l.row;
+}
+
+abbrev pub invariant-some_unsure_on-loop-part : goal.invariant-some_unsure_on-loop-part
+invariant-some_unsure_on-loop-part l = record {
+  fit : numbers (map (checked l.sets) (drop l.part-index l.parts)) ≡ true;
+  rest : (any_undefined (map (reach l.sets) (drop l.part-index l.parts)) || some_several (map (reach l.sets) (drop l.part-index l.parts))) ≡ (any_undefined (map (reach l.sets) l.parts) || some_several (map (reach l.sets) l.parts));
 }
