@@ -1,5 +1,5 @@
 -- Parts that are to be distinct.
-use Rattle.std.proofs.Common.{◌≡◌, ℕ, ◌+◌, ◌<◌, ◌≤◌, List, [], ◌∷◌, Bool, true, false, not, ◌&&◌, ◌||◌, Option, Some, None, map, zero, suc, refl, sym, ap, ◌∙◌, subst, arith}
+use Rattle.std.proofs.Common.{◌≡◌, ℕ, ◌+◌, ◌≤◌, List, [], ◌∷◌, Bool, true, false, not, ◌&&◌, ◌||◌, Option, Some, None, zero, suc, refl, sym, ap, ◌∙◌, arith}
 use Rattle.std.proofs.lemmas.Bool.{false≢true}
 use Rattle.std.proofs.lemmas.Int.{ints, by_lt_z}
 use Rattle.std.proofs.Math.IntN.{nat_abs}
@@ -11,9 +11,9 @@ use Rattle.ms_num.specs.Span.{Span, Inside, point}
 use Rattle.ms_ground.specs.Value as v
 use Rattle.ms_ground.specs.Value.{Meaning, how_many}
 use Rattle.ms_ground.specs.Reach as r
-use Rattle.ms_ground.specs.Laws.{of_number, Fewer, Numbers, Truths}
+use Rattle.ms_ground.specs.Laws.{of_number, Fewer, Truths}
 use Rattle.ms_ground.specs.declared.tree.Reach.{Reach}
-use Rattle.ms_ground.proofs.Bools.{ap2, and_left, and_right, and_true, or_left, or_right, or_split, or_less, or_false, not_true, true_not, is_false, both_ways, same_tests, le_of, of_le, lt_of, of_lt, not_le, not_lt, le_not, eq_of, of_eq}
+use Rattle.ms_ground.proofs.Bools.{ap2, and_left, and_right, and_true, or_left, or_right, or_split, or_less, or_false, not_true, true_not, is_false, both_ways, same_tests, le_of, of_le, lt_of, of_lt, not_le, eq_of}
 use Rattle.ms_ground.proofs.Points.{spans, all_defined, any_undefined}
 use Rattle.ms_ground.proofs.Lists.{AllLess, any_undefined_less}
 

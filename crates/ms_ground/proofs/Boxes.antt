@@ -1,16 +1,15 @@
 -- One turn of the walks over parts, on a box.
-use Rattle.std.proofs.Common.{◌≡◌, ℕ, ◌+◌, ◌<◌, ◌≤◌, List, [], ◌∷◌, Bool, true, false, not, ◌&&◌, ◌||◌, Option, Some, None, map, length, drop, get_or, IfSome, zero, suc, add-one, refl, sym, ap, ◌∙◌, subst, arith}
-use Rattle.std.proofs.lemmas.Bool.{false≢true}
+use Rattle.std.proofs.Common.{◌≡◌, ℕ, ◌+◌, ◌<◌, List, [], ◌∷◌, Bool, true, false, ◌&&◌, ◌||◌, Option, Some, None, map, length, drop, get_or, IfSome, suc, add-one, refl, sym, ap, ◌∙◌, subst, arith}
 use Rattle.std.proofs.lemmas.Int.{ints, int_max_is, int_min_is}
 use Rattle.std.proofs.Math.ListN.{length-map}
-use Rattle.std.specs.Prelude.{ℤ, pos, negsuc, ◌≤ℤ◌, ◌/◌, int_le, is_some, if◌then◌else◌, ◌^◌, ◌-◌}
+use Rattle.std.specs.Prelude.{ℤ, pos, negsuc, ◌/◌, int_le, is_some, if◌then◌else◌, ◌^◌, ◌-◌}
 use Rattle.std.specs.Int.{int_min, int_max}
-use Rattle.ms_num.specs.Span.{Span, IsInterval, Inside, join, join_some}
+use Rattle.ms_num.specs.Span.{Span, IsInterval, join_some}
 use Rattle.ms_ground.specs.Value.{how_many}
 use Rattle.ms_ground.specs.Extreme.{so_far_on, onward_on}
 use Rattle.ms_ground.specs.Reach as r
 use Rattle.ms_ground.specs.Reach.{reach}
-use Rattle.ms_ground.specs.Laws.{Fewer, Numbers, Less}
+use Rattle.ms_ground.specs.Laws.{Fewer, Less}
 use Rattle.ms_ground.specs.Fit.{is_fit, is_numeric, number, numbers, checked, fits}
 use Rattle.ms_ground.specs.declared.tree.Reach.{Reach}
 use Rattle.ms_ground.specs.declared.tree.Ground.{Ground}

@@ -9,7 +9,7 @@ use Rattle.ms_ground.specs.Value as v
 use Rattle.ms_ground.specs.Value.{Meaning, value}
 use Rattle.ms_ground.specs.Reach as r
 use Rattle.ms_ground.specs.Reach.{reach, points}
-use Rattle.ms_ground.specs.Room.{between, has_many, lies_in, first_meets}
+use Rattle.ms_ground.specs.Room.{between, has_many, first_meets}
 use Rattle.ms_ground.specs.Fit.{number, numbers, checked}
 use Rattle.ms_ground.specs.declared.tree.Reach.{Reach}
 use Rattle.ms_ground.specs.declared.tree.Ground.{Ground}

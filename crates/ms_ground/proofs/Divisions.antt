@@ -1,11 +1,11 @@
 -- Quotients and remainders.
-use Rattle.std.proofs.Common.{◌≡◌, ℕ, Bool, true, false, ◌&&◌, ◌||◌, Option, Some, None, zero, suc, refl, sym, ap, ◌∙◌, subst, arith, IfSome}
+use Rattle.std.proofs.Common.{◌≡◌, Bool, true, false, ◌||◌, Option, Some, None, refl, sym, ap, ◌∙◌, subst, arith, IfSome}
 use Rattle.std.proofs.lemmas.Bool.{false≢true}
 use Rattle.std.proofs.lemmas.Int.{ints}
-use Rattle.std.specs.Prelude.{ℤ, pos, negsuc, ◌≤ℤ◌, int_le, is_some, ◌↔◌}
+use Rattle.std.specs.Prelude.{ℤ, pos, ◌≤ℤ◌, int_le, is_some, ◌↔◌}
 use Rattle.std.specs.Int.Signed.{≤ℤ_refl}
 use Rattle.ms_num.specs.Numbers.{div_at, mod_at}
-use Rattle.ms_num.specs.Span.{Span, Has, Inside, IsResult, IsLeast, point, has, div_span, mod_span}
+use Rattle.ms_num.specs.Span.{Span, Inside, IsResult, IsLeast, point, has, div_span, mod_span}
 use Rattle.ms_num.proofs.Spans.{least_inside, same_some}
 use Rattle.ms_num.proofs.Quotients.{div_least, div_none}
 use Rattle.ms_num.proofs.Remainders.{mod_single, mod_inside, mod_none}
@@ -13,7 +13,7 @@ use Rattle.ms_ground.specs.Value as v
 use Rattle.ms_ground.specs.Reach as r
 use Rattle.ms_ground.specs.Laws.{of_number, Fewer, Numbers}
 use Rattle.ms_ground.specs.declared.tree.Reach.{Reach}
-use Rattle.ms_ground.proofs.Bools.{ap2, and_true, and_left, and_right, or_left, or_right, or_split, or_less, is_false, le_of, of_le}
+use Rattle.ms_ground.proofs.Bools.{ap2, and_left, and_right, or_left, or_right, or_less, is_false, le_of}
 use Rattle.ms_ground.proofs.Lists.{has_grows}
 
 -- an operation on intervals that has no result where 0 is the only second number

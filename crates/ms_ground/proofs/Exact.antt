@@ -1,8 +1,7 @@
 -- On a box of one assignment, what a tree may mean is what it means.
-use Rattle.std.proofs.Common.{◌≡◌, ℕ, List, [], ◌∷◌, Bool, true, false, not, ◌&&◌, ◌||◌, Option, Some, None, map, get_or, length, zero, suc, refl, sym, ap, ◌∙◌, subst, arith}
+use Rattle.std.proofs.Common.{◌≡◌, ℕ, List, [], ◌∷◌, Bool, true, false, not, ◌&&◌, ◌||◌, Some, map, get_or, length, zero, suc, refl, sym, ap, ◌∙◌, subst, arith}
 use Rattle.std.proofs.lemmas.Bool.{false≢true}
 use Rattle.std.proofs.lemmas.Bool.Decides.{nat_tests}
-use Rattle.std.proofs.Math.ListN.{length-map}
 use Rattle.std.specs.Prelude.{ℤ, pos, negsuc, int_le, int_lt, ◌/◌}
 use Rattle.ms_num.specs.Numbers.{int_eq, add_at, sub_at, mul_at, min_at, max_at, div_at, mod_at}
 use Rattle.ms_num.specs.Span.{Span, point, has, neg_span, abs_span, add_span, sub_span, mul_span, min_span, max_span, div_span, mod_span}
@@ -18,7 +17,7 @@ use Rattle.ms_ground.specs.Fit.{checked}
 use Rattle.ms_ground.specs.Laws.{of_number, exact}
 use Rattle.ms_ground.proofs.Layers.{induct, twice, fit_roll, fold_at, layer_map, is_numeric_roll}
 use Rattle.ms_ground.proofs.Bools.{and_left, and_right, and_true, ap2, twice_not, lt_flip, le_flip}
-use Rattle.ms_ground.proofs.Points.{spans, IsPointwise, add_points, sub_points, mul_points, min_points, max_points, single, exact_operation, exact_neg, exact_abs, exact_folded, exact_extreme, exact_comparison, exact_counted, exact_either, exact_either_truth, exact_in, exact_rowed}
+use Rattle.ms_ground.proofs.Points.{spans, add_points, sub_points, mul_points, min_points, max_points, single, exact_operation, exact_neg, exact_abs, exact_folded, exact_extreme, exact_comparison, exact_counted, exact_either, exact_either_truth, exact_in, exact_rowed}
 use Rattle.ms_ground.proofs.Places.{exact_elem, exact_elem2}
 use Rattle.ms_ground.proofs.Apart.{exact_distinct}
 use Rattle.ms_ground.proofs.Divisions.{exact_division, div_shares, mod_shares}

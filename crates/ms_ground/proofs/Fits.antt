@@ -1,9 +1,8 @@
 -- What a fit tree says of its parts.
-use Rattle.std.proofs.Common.{◌≡◌, ℕ, ◌<◌, List, [], ◌∷◌, Bool, true, false, not, ◌&&◌, ◌||◌, Option, Some, None, map, length, refl, sym, ap, ◌∙◌, subst, arith, T, drop, get_or, drop-cons, add-one, suc, zero, ◌+◌}
-use Rattle.std.proofs.lemmas.Bool.{false≢true}
+use Rattle.std.proofs.Common.{◌≡◌, ℕ, ◌<◌, List, [], ◌∷◌, Bool, true, false, not, ◌&&◌, ◌||◌, Option, Some, None, map, length, refl, sym, ap, ◌∙◌, arith, drop, get_or, drop-cons, add-one, suc, zero, ◌+◌}
 use Rattle.std.proofs.lemmas.Bool.Decides.{nat_tests}
-use Rattle.std.specs.Prelude.{ℤ, pos, negsuc, ◌≤ℤ◌, ◌+ℤ◌, ◌-ℤ◌, ◌*ℤ◌, int_le, nat_lt, ◌^◌, ◌-◌}
-use Rattle.ms_num.specs.Span.{Span, point, is_narrow, add_span, mul_span, sub_span, neg_span, abs_span, div_span, mod_span}
+use Rattle.std.specs.Prelude.{ℤ, pos, negsuc, ◌+ℤ◌, ◌-ℤ◌, ◌*ℤ◌, int_le, nat_lt, ◌^◌, ◌-◌}
+use Rattle.ms_num.specs.Span.{Span, point, is_narrow, add_span, mul_span, sub_span}
 use Rattle.ms_ground.specs.Fit.{Checked, fit_rule, is_fit, is_numeric, number, truth, numbers, truths, has_variable, fits, sums_fit, narrow_step, sorted_step, reach_of, AreNumbers, AreTruths, IsTruth, IsNumber, ListAnd, ListAndTwo, NumberBranches, TruthBranches, IsWithin}
 use Rattle.ms_ground.specs.Fit.{checked}
 use Rattle.ms_ground.specs.Laws.{HasVariable}
@@ -18,7 +17,7 @@ use Rattle.ms_ground.proofs.Exact.{reach_on_point}
 use Rattle.ms_ground.specs.Laws.{exact, of_number}
 use Rattle.ms_ground.specs.Value.{Meaning, value}
 use Rattle.ms_ground.specs.Value as v
-use Rattle.ms_num.specs.Numbers.{add_at, sub_at, mul_at, neg_at, abs_at, div_at, mod_at}
+use Rattle.ms_num.specs.Numbers.{add_at, sub_at, mul_at}
 use Rattle.ms_ground.specs.declared.tree.Ground.TheFolds.{the_lemmas}
 use Rattle.ms_ground.specs.Reach as r
 

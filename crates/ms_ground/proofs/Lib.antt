@@ -7,9 +7,15 @@ pub mod Apart
 pub mod Divisions
 pub mod Exact
 pub mod Fits
+pub mod Operations
+pub mod Comparisons
+pub mod Counts
+pub mod Choices
+pub mod Memberships
 pub mod Smaller
 pub mod Walks
 pub mod Boxes
 pub mod Refutes
 pub mod Distinct
 pub mod Rowed
+pub mod Outside

@@ -1,15 +1,14 @@
 -- Lists of parts that may mean less.
-use Rattle.std.proofs.Common.{◌≡◌, ℕ, List, [], ◌∷◌, Bool, true, false, ◌&&◌, ◌||◌, Option, Some, None, length, suc, refl, sym, ap, ◌∙◌, subst, arith}
+use Rattle.std.proofs.Common.{◌≡◌, List, [], ◌∷◌, true, Option, Some, None, length, suc, refl, ap, arith}
 use Rattle.std.proofs.lemmas.Bool.{false≢true}
 use Rattle.std.proofs.lemmas.Int.{ints, int_max_is, int_min_is}
 use Rattle.std.specs.Prelude.{ℤ, ◌≤ℤ◌, int_le, is_some}
 use Rattle.std.specs.Int.{int_min, int_max}
-use Rattle.std.specs.Int.Signed.{≤ℤ_refl}
-use Rattle.ms_num.specs.Span.{Span, Inside, has, join, join_some, point}
+use Rattle.ms_num.specs.Span.{Span, Inside, has, join, join_some}
 use Rattle.ms_ground.specs.Reach as r
 use Rattle.ms_ground.specs.Laws.{Fewer, Numbers, Truths}
 use Rattle.ms_ground.specs.declared.tree.Reach.{Reach}
-use Rattle.ms_ground.proofs.Bools.{and_left, and_right, and_true, or_left, or_right, or_split, or_less, le_of, of_le}
+use Rattle.ms_ground.proofs.Bools.{and_left, and_right, and_true, or_less, le_of, of_le}
 
 -- integer parts that may mean less than those of another list, one by one
 abbrev pub AllLess : List Reach → List Reach → Type 0

@@ -1,5 +1,5 @@
 -- Access by index.
-use Rattle.std.proofs.Common.{◌≡◌, ℕ, ◌+◌, ◌*◌, ◌/◌, ◌%◌, ◌<◌, ◌≤◌, List, [], ◌∷◌, Bool, true, false, not, ◌&&◌, ◌||◌, Option, Some, None, length, map, zero, suc, refl, sym, ap, ◌∙◌, subst, arith}
+use Rattle.std.proofs.Common.{◌≡◌, ℕ, ◌+◌, ◌*◌, ◌/◌, ◌%◌, ◌<◌, ◌≤◌, List, [], ◌∷◌, Bool, true, false, not, ◌&&◌, ◌||◌, Option, Some, None, length, zero, suc, refl, sym, ap, ◌∙◌, subst, arith}
 use Rattle.std.proofs.lemmas.Bool.{false≢true}
 use Rattle.std.proofs.lemmas.Bool.Decides.{nat_tests}
 use Rattle.std.proofs.lemmas.Int.{ints}
@@ -7,17 +7,17 @@ use Rattle.std.proofs.lemmas.Nat.{div-mul-add, mod-mul-add}
 use Rattle.std.proofs.Math.Nat.{div-add-mod, div-zero}
 use Rattle.std.proofs.Math.IntN.{nat_abs}
 use Rattle.std.proofs.Math.ListN.{length-map}
-use Rattle.std.specs.Prelude.{ℤ, pos, ◌+ℤ◌, ◌-ℤ◌, ◌≤ℤ◌, ◌<ℤ◌, int_le, int_lt, nat_lt, is_some, if◌then◌else◌}
+use Rattle.std.specs.Prelude.{ℤ, pos, ◌+ℤ◌, ◌-ℤ◌, ◌≤ℤ◌, int_le, int_lt, nat_lt, is_some, if◌then◌else◌}
 use Rattle.ms_num.specs.Numbers.{int_eq}
-use Rattle.ms_num.specs.Span.{Span, Inside, point, has, join_some}
+use Rattle.ms_num.specs.Span.{Span, point, has, join_some}
 use Rattle.ms_ground.specs.Value as v
 use Rattle.ms_ground.specs.Value.{Meaning}
 use Rattle.ms_ground.specs.Reach as r
 use Rattle.ms_ground.specs.Laws.{of_number, Fewer, Numbers}
 use Rattle.ms_ground.specs.declared.tree.Reach.{Reach}
-use Rattle.ms_ground.proofs.Bools.{ap2, and_left, and_right, and_true, or_left, or_right, or_split, or_less, or_false, is_false, both_ways, opposite_tests, le_of, of_le, lt_of, of_lt, not_le, not_lt, eq_of, of_eq}
+use Rattle.ms_ground.proofs.Bools.{ap2, and_left, and_right, and_true, or_left, or_right, or_split, or_less, or_false, is_false, opposite_tests, le_of, of_le, lt_of, of_lt, not_le, not_lt, eq_of, of_eq}
 use Rattle.ms_ground.proofs.Points.{spans}
-use Rattle.ms_ground.proofs.Lists.{AllLess, same_length, has_grows, join_fewer, join_more, left_some, right_some}
+use Rattle.ms_ground.proofs.Lists.{AllLess, same_length, has_grows, join_fewer, join_more, left_some}
 
 below_test : (a b : ℕ) → nat_lt a b ≡ true → a < b
 below_test a b h = grind (arith, nat_tests)

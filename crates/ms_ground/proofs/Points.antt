@@ -1,20 +1,20 @@
 -- What operations on integer parts give on one assignment.
-use Rattle.std.proofs.Common.{◌≡◌, ℕ, ◌+◌, List, [], ◌∷◌, Bool, true, false, not, cond, ◌&&◌, ◌||◌, Option, Some, None, map, zero, suc, refl, sym, ap, ◌∙◌, subst, arith}
+use Rattle.std.proofs.Common.{◌≡◌, ℕ, List, [], ◌∷◌, Bool, true, false, not, cond, ◌&&◌, ◌||◌, Option, Some, None, map, suc, refl, sym, ap, ◌∙◌, arith}
 use Rattle.std.proofs.lemmas.Bool.{false≢true}
-use Rattle.std.specs.Prelude.{ℤ, pos, negsuc, ◌*ℤ◌, int_le, int_lt, neg_ℤ, unsigned_abs, is_some, if◌then◌else◌}
+use Rattle.std.specs.Prelude.{ℤ, pos, ◌*ℤ◌, int_lt, neg_ℤ, unsigned_abs, is_some, if◌then◌else◌}
 use Rattle.std.specs.Int.{int_min, int_max}
-use Rattle.std.specs.List.{list_any, list_all}
+use Rattle.std.specs.List.{list_any}
 use Rattle.std.proofs.lemmas.Int.{ints, int_max_is}
 use Rattle.ms_num.proofs.Images.{abs_is}
 use Rattle.ms_num.specs.Numbers.{int_eq, neg_at, abs_at, add_at, sub_at, mul_at, min_at, max_at}
-use Rattle.ms_num.specs.Span.{Span, has, point, neg_span, abs_span, add_span, sub_span, mul_span, min_span, max_span, join_some}
+use Rattle.ms_num.specs.Span.{Span, has, point, neg_span, abs_span, add_span, sub_span, mul_span, min_span, max_span}
 use Rattle.ms_num.specs.Ranges.{is_member}
 use Rattle.ms_ground.specs.Value as v
 use Rattle.ms_ground.specs.Value.{Meaning}
 use Rattle.ms_ground.specs.Reach as r
 use Rattle.ms_ground.specs.Laws.{of_number}
 use Rattle.ms_ground.specs.declared.tree.Reach.{Reach}
-use Rattle.ms_ground.proofs.Bools.{ap2, and_one, twice_not, le_same, lt_flip, le_flip, and_left, and_right, not_true, or_right, or_left}
+use Rattle.ms_ground.proofs.Bools.{ap2, and_one, le_same, lt_flip, not_true}
 
 -- what integer parts may mean on the assignment
 abbrev pub spans : List Meaning → List Reach

@@ -1,15 +1,15 @@
 -- A fit tree is fit on each smaller box, and a refuted one is met nowhere in the box.
-use Rattle.std.proofs.Common.{◌≡◌, ℕ, ◌<◌, List, [], ◌∷◌, Bool, true, false, not, ◌&&◌, ◌||◌, Option, Some, None, map, length, get_or, zero, suc, refl, sym, ap, ◌∙◌, subst, arith}
+use Rattle.std.proofs.Common.{◌≡◌, ℕ, ◌<◌, List, [], ◌∷◌, Bool, true, not, ◌&&◌, Option, Some, None, map, length, zero, suc, refl, sym, ap, ◌∙◌, subst, arith}
 use Rattle.std.proofs.lemmas.Bool.{false≢true}
 use Rattle.std.proofs.lemmas.Bool.Decides.{nat_tests}
 use Rattle.std.proofs.lemmas.Int.{ints}
 use Rattle.std.proofs.Math.ListN.{length-map}
-use Rattle.std.specs.Prelude.{ℤ, pos, negsuc, ◌≤ℤ◌, int_le, nat_lt, slice_index_or, ◌^◌, ◌-◌}
-use Rattle.ms_num.specs.Span.{Span, Has, Inside, point, add_span, is_narrow}
+use Rattle.std.specs.Prelude.{ℤ, pos, negsuc, int_le, nat_lt, slice_index_or, ◌^◌, ◌-◌}
+use Rattle.ms_num.specs.Span.{Span, Inside, point, add_span}
 use Rattle.ms_ground.specs.Value.{value}
 use Rattle.ms_ground.specs.Reach as r
 use Rattle.ms_ground.specs.Reach.{reach, reach_step, points, span_at}
-use Rattle.ms_ground.specs.Laws.{Fewer, Numbers, Less, Smaller, HasVariable, LiesIn, Refuted, SmallerBoxesFit, RefutedMeansUnmet, exact}
+use Rattle.ms_ground.specs.Laws.{Fewer, Numbers, Less, Smaller, LiesIn, SmallerBoxesFit, RefutedMeansUnmet, exact}
 use Rattle.ms_ground.specs.Fit.{Checked, fit_rule, sorted_step, narrow_step, sums_fit, fits, is_fit, is_numeric, numeric_layer, number, truth, numbers, truths, has_variable, checked, reach_of}
 use Rattle.ms_ground.specs.declared.tree.Reach.{Reach}
 use Rattle.ms_ground.specs.declared.tree.Ground.{Ground, roll-Ground, map-Ground}
@@ -17,7 +17,8 @@ use Rattle.ms_ground.specs.declared.tree.Ground.TheOpen.{Ground-F, Num, Undef, V
 use Rattle.ms_ground.proofs.Layers.{induct, twice, fit_roll, fold_at, layer_map, is_numeric_roll}
 use Rattle.ms_ground.proofs.Bools.{and_left, and_right, and_true, and_less, is_false, le_of, of_le}
 use Rattle.ms_ground.proofs.Exact.{reach_on_point}
-use Rattle.ms_ground.proofs.Smaller.{reach_on_smaller, add_shrinks, both_fewer, point_inside}
+use Rattle.ms_ground.proofs.Operations.{add_shrinks, both_fewer, point_inside}
+use Rattle.ms_ground.proofs.Smaller.{reach_on_smaller}
 use Rattle.ms_ground.proofs.Fits.{variable}
 
 -- a part, with the claim for it

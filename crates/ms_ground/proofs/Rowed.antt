@@ -1,7 +1,6 @@
 -- Walks over parts and a row of numbers.
-use Rattle.std.proofs.Common.{◌≡◌, ℕ, ◌+◌, List, [], ◌∷◌, Bool, false, true, ◌&&◌, ◌||◌, Some, None, map, length, drop, get_or, ◌<◌, suc, refl, ap, ◌∙◌, sym, arith}
+use Rattle.std.proofs.Common.{◌≡◌, ℕ, ◌+◌, List, [], ◌∷◌, Bool, false, true, ◌&&◌, map, length, drop, get_or, ◌<◌, suc, refl, ap, ◌∙◌, sym}
 use Rattle.std.specs.Prelude.{ℤ, pos}
-use Rattle.std.specs.List.{list_any}
 use Rattle.std.proofs.Math.ListN.{length-map}
 use Rattle.ms_num.specs.Numbers.{int_eq}
 use Rattle.ms_num.specs.Span.{Span, has}

@@ -1,11 +1,10 @@
 -- One turn of the walks over parts, on an assignment.
-use Rattle.std.proofs.Common.{◌≡◌, ℕ, ◌+◌, ◌<◌, ◌≤◌, List, [], ◌∷◌, Bool, true, false, not, ◌&&◌, ◌||◌, Option, Some, None, map, length, drop, get_or, IfSome, ◌^◌, zero, suc, add-one, refl, sym, ap, ◌∙◌, subst, arith, IsTrue}
-use Rattle.std.proofs.lemmas.Bool.{false≢true}
+use Rattle.std.proofs.Common.{◌≡◌, ℕ, ◌+◌, ◌<◌, ◌≤◌, List, [], ◌∷◌, Bool, true, false, ◌&&◌, Option, Some, None, map, length, drop, get_or, IfSome, ◌^◌, suc, add-one, refl, sym, ap, ◌∙◌, subst, arith}
 use Rattle.std.proofs.lemmas.Int.{ints}
 use Rattle.std.proofs.Math.ListN.{length-map}
-use Rattle.std.specs.Prelude.{ℤ, pos, ◌+ℤ◌, ◌-ℤ◌, ◌/◌, nat_lt, is_some, if◌then◌else◌}
-use Rattle.ms_num.specs.Numbers.{int_eq, sub_at}
-use Rattle.ms_num.specs.Span.{Span, point, is_within}
+use Rattle.std.specs.Prelude.{ℤ, pos, ◌+ℤ◌, ◌/◌, nat_lt, is_some, if◌then◌else◌}
+use Rattle.ms_num.specs.Numbers.{int_eq}
+use Rattle.ms_num.specs.Span.{is_within}
 use Rattle.ms_ground.specs.Value as v
 use Rattle.ms_ground.specs.Value.{Meaning, value, how_many}
 use Rattle.ms_ground.specs.Extreme.{so_far, onward}

@@ -1,5 +1,5 @@
 -- The least or the greatest of a list, as far as it has been read.
-use Rattle.std.specs.Prelude.{List, [], ◌∷◌, Option, Some, None, ℤ, ◌||◌}
+use Rattle.std.specs.Prelude.{List, Option, Some, None, ℤ, ◌||◌}
 use Rattle.ms_num.specs.Numbers.{min_at, max_at}
 use Rattle.ms_num.specs.Span.{Span, min_span, max_span}
 use Rattle.ms_ground.specs.Value as v

@@ -1,9 +1,10 @@
 -- The laws of what a tree may mean.
-use Rattle.std.specs.Prelude.{◌≡◌, ℕ, ◌<◌, List, Option, Some, None, Bool, true, false, not, ◌||◌, is_some, length, slice_index_or, ℤ, pos, ◌≤ℤ◌}
+use Rattle.std.specs.Prelude.{◌≡◌, ℕ, ◌<◌, List, Option, Some, None, Bool, true, false, not, ◌||◌, is_some, length, slice_index_or, ℤ, pos, ◌≤ℤ◌, ◌↔◌}
 use Rattle.ms_num.specs.Span.{Span, Has, Inside, point}
+use Rattle.ms_num.specs.Ranges.{is_member, IsRanges}
 use Rattle.ms_ground.specs.Value.{Meaning, value}
 use Rattle.ms_ground.specs.Reach as r
-use Rattle.ms_ground.specs.Reach.{reach, points, span_at}
+use Rattle.ms_ground.specs.Reach.{reach, points, span_at, may_be_in, is_inside}
 use Rattle.ms_ground.specs.Fit.{is_fit, is_numeric}
 use Rattle.ms_ground.specs.declared.tree.Reach.{Reach}
 use Rattle.ms_ground.specs.declared.tree.Ground.{Ground}
@@ -72,3 +73,25 @@ Refuted b g = (reach b g).yes ≡ false
 -- where a Boolean tree is refuted on a box, no assignment of the box meets it
 abbrev pub RefutedMeansUnmet : Type 0
 RefutedMeansUnmet = (b : List Span) (a : List ℤ) → LiesIn a b → (g : Ground) → is_fit b g ≡ true → is_numeric g ≡ false → Refuted b g → (value a g).truth ≡ false
+
+-- ---- an interval and the ranges of a set
+
+-- a number of the interval that is in one of the ranges
+pub record HasShared (rs : List Span) (s : Span) : Type 0 where
+  pub number : ℤ
+  pub within : Has s number
+  pub member : is_member rs number ≡ true
+
+-- a number of the interval that is in none of the ranges
+pub record HasOutside (rs : List Span) (s : Span) : Type 0 where
+  pub number : ℤ
+  pub within : Has s number
+  pub outside : is_member rs number ≡ false
+
+-- a range meets the interval exactly where the interval has a number of the set
+abbrev pub SetsMeetWhereTheyShare : Type 0
+SetsMeetWhereTheyShare = (rs : List Span) → IsRanges rs → (s : Span) → s.lo ≤ℤ s.hi → (may_be_in rs s ≡ true) ↔ HasShared rs s
+
+-- the interval lies within no one range exactly where it has a number outside the set
+abbrev pub SetsHoldWhereNoneIsOutside : Type 0
+SetsHoldWhereNoneIsOutside = (rs : List Span) → IsRanges rs → (s : Span) → s.lo ≤ℤ s.hi → (is_inside rs s ≡ false) ↔ HasOutside rs s

@@ -1,5 +1,5 @@
 -- What the code asks of ranges that hold intervals of parts.
-use Rattle.std.specs.Prelude.{ℕ, List, [], ◌∷◌, Option, Some, None, Bool, false, ◌||◌, ◌&&◌, ℤ, pos, ◌+ℤ◌, ◌-ℤ◌, int_le, if◌then◌else◌}
+use Rattle.std.specs.Prelude.{ℕ, List, [], ◌∷◌, Option, Some, None, Bool, false, ◌||◌, ◌&&◌, pos, ◌+ℤ◌, ◌-ℤ◌, int_le, if◌then◌else◌}
 use Rattle.std.specs.List.{list_any}
 use Rattle.ms_num.specs.Span.{Span}
 use Rattle.ms_ground.specs.Reach.{compare, meets}

@@ -1,4 +1,4 @@
-ghost use Rattle.ms_ground.specs.Laws.{SmallerBoxesMeanLess, PointsMeanThemselves, SmallerBoxesFit, RefutedMeansUnmet};
+ghost use Rattle.ms_ground.specs.Laws.{SmallerBoxesMeanLess, PointsMeanThemselves, SmallerBoxesFit, RefutedMeansUnmet, SetsMeetWhereTheyShare, SetsHoldWhereNoneIsOutside};
 
 /// Does nothing: its contract has the laws of what a tree may mean.
 pub fn keep_laws()
@@ -6,4 +6,10 @@ pub fn keep_laws()
     ensures single { PointsMeanThemselves }
     ensures fit { SmallerBoxesFit }
     ensures refuted { RefutedMeansUnmet }
+{}
+
+/// Does nothing: its contract says by numbers when a number may be in a set, and when it may be outside.
+pub fn membership_law()
+    ensures shared { SetsMeetWhereTheyShare }
+    ensures outside { SetsHoldWhereNoneIsOutside }
 {}

@@ -28,7 +28,7 @@ mod tree;
 
 pub use branching::{Branching, Order, ValueChoice};
 pub use copies::copy_trees;
-pub use laws::keep_laws;
+pub use laws::{keep_laws, membership_law};
 pub use meaning::{holds, value_at};
 pub use nodes::{nesting, size};
 pub use reaching::hull;

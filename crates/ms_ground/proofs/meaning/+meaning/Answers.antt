@@ -1,4 +1,4 @@
-use Rattle.std.proofs.Common.{◌≡◌, ℕ, ◌+◌, ◌&&◌, Bool, true, not, get_or, pos, List, [], Some, None, map, drop, length, add-zero, of_z, refl, arith, ◌∙◌, sym, ap, rules, to_z, w64, SFits}
+use Rattle.std.proofs.Common.{◌≡◌, ◌+◌, ◌&&◌, Bool, true, not, get_or, pos, [], Some, None, map, drop, length, add-zero, of_z, refl, arith, ◌∙◌, sym, ap, rules, to_z, w64, SFits}
 use Rattle.std.specs.Prelude.{is_some, if◌then◌else◌}
 use Rattle.std.proofs.lemmas.Int.{to_z-of_z, to_z_pos}
 use Rattle.std.proofs.lemmas.List.{drop_all}
@@ -6,7 +6,7 @@ use Rattle.ms_num.specs.Numbers.{int_eq}
 use Rattle.std.proofs.Math.ListN.{length-map}
 use Rattle.ms_num.specs.Span.{point}
 use Rattle.std.specs.List.{list_any, list_all}
-use Rattle.ms_ground.specs.Value.{Meaning, value, selected, is_place, compare, int_ne, how_many, all_defined, first_differs, are_distinct, is_row}
+use Rattle.ms_ground.specs.Value.{Meaning, value, selected, is_place, compare, int_ne, how_many, all_defined, are_distinct, is_row}
 use Rattle.ms_ground.specs.Reach.{points}
 use Rattle.ms_ground.specs.Extreme.{extreme_at}
 use Rattle.ms_ground.specs.Access.{reaches}

@@ -1,4 +1,4 @@
-use Rattle.std.proofs.Common.{◌≡◌, ℕ, ◌+◌, ◌<◌, ◌≤◌, true, ◌&&◌, Some, map, drop, pos, length, get_or}
+use Rattle.std.proofs.Common.{◌≡◌, ◌+◌, ◌≤◌, true, Some, map, drop, pos}
 use Rattle.ms_num.specs.Numbers.{add_at, int_eq}
 use Rattle.ms_num.specs.Span.{point}
 use Rattle.std.specs.List.{list_any, list_all}

@@ -1,6 +1,6 @@
-use Rattle.std.proofs.Common.{◌≡◌, refl, Some, true, ◌∙◌, sym, ap, w64, to_z, of_z, arith, SFits}
-use Rattle.std.specs.Prelude.{ℤ, pos, int_rem, ◌≤ℤ◌}
-use Rattle.std.proofs.lemmas.Int.{ints, to_z-of_z}
+use Rattle.std.proofs.Common.{◌≡◌, refl, true, sym, w64}
+use Rattle.std.specs.Prelude.{ℤ, pos, int_rem}
+use Rattle.std.proofs.lemmas.Int.{to_z-of_z}
 use Rattle.ms_num.specs.Span.{is_within}
 use Rattle.ms_num.proofs.Spans.{read_within}
 use Rattle.ms_num.proofs.Remainders.{rem_within, mod_at_is}

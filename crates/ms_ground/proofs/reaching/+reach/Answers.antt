@@ -1,4 +1,4 @@
-use Rattle.std.proofs.Common.{◌≡◌, ℕ, ◌+◌, Bool, true, false, not, ◌&&◌, ◌||◌, List, [], Some, None, map, drop, get_or, arith, ap, ◌∙◌, sym, rules, w64, SFits}
+use Rattle.std.proofs.Common.{◌≡◌, true, false, not, ◌&&◌, ◌||◌, [], Some, None, map, drop, get_or, arith, ap, ◌∙◌, sym, rules, w64, SFits}
 use Rattle.std.specs.Prelude.{pos, is_some, if◌then◌else◌}
 use Rattle.std.proofs.lemmas.Int.{to_z-of_z}
 use Rattle.std.proofs.lemmas.List.{drop_all}
@@ -15,7 +15,7 @@ use Rattle.ms_ground.proofs.Fits.{fit-Abs, fit-Add, fit-AllDiff, fit-And, fit-BV
 use Rattle.ms_ground.proofs.Walks.{counted_one, at_most_one}
 use Rattle.ms_ground.proofs.Boxes.{PlaceOn, parts_on, onward_end, join_end, place_taken, place_passed, elem_reach, elem2_reach, count_interval}
 use Rattle.ms_ground.proofs.Smaller.{truth_some}
-use Rattle.ms_ground.proofs.Distinct.{spans_over, meets_on, between_room, counted_room, wide_room}
+use Rattle.ms_ground.proofs.Distinct.{spans_over, meets_on, between_room, wide_room}
 use Rattle.ms_ground.proofs.Rowed.{no_row_on, row_on, entry_here}
 use Rattle.ms_ground.proofs.reaching.+reach.Goals as goal
 use Rattle.ms_ground.proofs.reaching.+reach.Goals.{selected_on-then-reaches, selected_on-else-reaches}
