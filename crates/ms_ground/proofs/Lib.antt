@@ -19,3 +19,4 @@ pub mod Refutes
 pub mod Distinct
 pub mod Rowed
 pub mod Outside
+pub mod Known

@@ -6,3 +6,4 @@ pub mod Laws
 pub mod Access
 pub mod Extreme
 pub mod Room
+pub mod Known

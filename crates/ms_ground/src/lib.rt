@@ -16,8 +16,10 @@ mod access;
 mod branching;
 mod copies;
 mod extreme;
+mod fit;
 mod laws;
 mod meaning;
+mod narrow;
 mod nodes;
 mod numbers;
 mod reaching;
@@ -28,6 +30,7 @@ mod tree;
 
 pub use branching::{Branching, Order, ValueChoice};
 pub use copies::copy_trees;
+pub use fit::is_fit;
 pub use laws::{keep_laws, membership_law};
 pub use meaning::{holds, value_at};
 pub use nodes::{nesting, size};

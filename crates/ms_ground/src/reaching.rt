@@ -39,7 +39,7 @@ pub fn hull(g: &Ground, sets: &[Iv]) -> Hull
 
 // The numbers of an integer tree, and whether it may be undefined.
 #[cycle(reach)]
-fn numbers_on(g: &Ground, sets: &[Iv]) -> Reach
+pub fn numbers_on(g: &Ground, sets: &[Iv]) -> Reach
     requires { IsTrue (is_fit sets.now g.now) }
     ensures { result ≡ numeric_of (reach sets.now g.now).numbers (reach sets.now g.now).undefined }
 {
@@ -100,7 +100,7 @@ fn numbers_on(g: &Ground, sets: &[Iv]) -> Reach
 
 // The truth values of a Boolean tree.
 #[cycle(reach)]
-fn truths_on(g: &Ground, sets: &[Iv]) -> Reach
+pub fn truths_on(g: &Ground, sets: &[Iv]) -> Reach
     requires { IsTrue (is_fit sets.now g.now) }
     ensures { result ≡ boolean_of (reach sets.now g.now).yes (reach sets.now g.now).no }
 {
@@ -158,7 +158,7 @@ fn sum_on(parts: &[Ground], sets: &[Iv]) -> Reach
 }
 
 #[cycle(reach)]
-fn extreme_on(which: Extreme, parts: &[Ground], sets: &[Iv]) -> Reach
+pub fn extreme_on(which: Extreme, parts: &[Ground], sets: &[Iv]) -> Reach
     requires { IsTrue (numbers (map (checked sets.now) parts.now)) }
     ensures { result ≡ extreme (operation_of which) (map (reach sets.now) parts.now) }
 {
@@ -173,7 +173,7 @@ fn extreme_on(which: Extreme, parts: &[Ground], sets: &[Iv]) -> Reach
 }
 
 #[cycle(reach)]
-fn selected_on(parts: &[Ground], access: &Access, none: bool, sets: &[Iv]) -> Reach
+pub fn selected_on(parts: &[Ground], access: &Access, none: bool, sets: &[Iv]) -> Reach
     requires { IsTrue (numbers (map (checked sets.now) parts.now)) }
     ensures { result ≡ selected (reached_by access.now) none (map (reach sets.now) parts.now) }
 {

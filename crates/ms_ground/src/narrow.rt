@@ -1,0 +1,233 @@
+ghost use Rattle.std.specs.Prelude.{◌≡◌, ◌&&◌, ◌||◌, IsTrue, Some, None, not, true, is_some, map, option_map, int_le, pos, if◌then◌else◌};
+ghost use Rattle.ms_num.specs.Span.{is_narrow as is_narrow_of, point, add_span, sub_span, mul_span, div_span, mod_span, neg_span, abs_span};
+ghost use Rattle.ms_ground.specs.Reach.{reach, both, both_some, span_at, either_number, all_some, counts};
+ghost use Rattle.ms_ground.specs.Fit.{fits, has_variable, numbers, sums_fit, checked};
+ghost use Rattle.ms_ground.specs.Known.{passes, both_pass, all_pass};
+
+use crate::numbers::one_if;
+use crate::reaching::numbers_on;
+use crate::spans::{either, magnitude, meets, negated, quotient, remainder};
+use crate::tree::{Ground, Reach};
+use ms_num::{Iv, LIMIT};
+
+// The greatest number that a count may be.
+const MOST: usize = 1 << 50;
+
+pub fn is_narrow(x: Option<Iv>) -> bool
+    ensures { result ≡ fits x }
+{
+    match x {
+        Some(x) => -LIMIT <= x.lo() && x.hi() <= LIMIT,
+        None => true,
+    }
+}
+
+pub fn number_is_narrow(n: i64) -> bool
+    ensures { result ≡ is_narrow_of (point n) }
+{
+    -LIMIT <= n && n <= LIMIT
+}
+
+/// The variable is one of the box.
+pub fn variable_is_fit(v: u32, sets: &[Iv]) -> bool
+    ensures { result ≡ (has_variable sets.now v && fits (Some (span_at sets.now v))) }
+{
+    let v = v as usize;
+    if v < sets.len() {
+        is_proper(sets[v]) && is_narrow(Some(sets[v]))
+    } else {
+        false
+    }
+}
+
+/// The variable is one of the box, with no numbers but 0 and 1.
+pub fn bit_is_fit(v: u32, sets: &[Iv]) -> bool
+    ensures { result ≡ (has_variable sets.now v && int_le (pos 0) (span_at sets.now v).lo && int_le (span_at sets.now v).hi (pos 1)) }
+{
+    let v = v as usize;
+    if v < sets.len() {
+        is_proper(sets[v]) && 0 <= sets[v].lo() && sets[v].hi() <= 1
+    } else {
+        false
+    }
+}
+
+fn is_proper(set: Iv) -> bool
+    ensures { result ≡ int_le set.lo set.hi }
+{
+    set.lo() <= set.hi()
+}
+
+pub fn sum_is_fit(x: Option<Reach>, y: Option<Reach>) -> bool
+    ensures { result ≡ both_pass (λ x y. fits (both add_span x.numbers y.numbers)) x y }
+{
+    match (x, y) {
+        (Some(x), Some(y)) => sum_is_narrow(x.numbers, y.numbers),
+        _ => false,
+    }
+}
+
+// The least interval of the sums does not leave the limits.
+fn sum_is_narrow(x: Option<Iv>, y: Option<Iv>) -> bool
+    ensures { result ≡ fits (both add_span x y) }
+{
+    match (x, y) {
+        (Some(x), Some(y)) => x.add(y).is_some(),
+        _ => true,
+    }
+}
+
+pub fn difference_is_fit(x: Option<Reach>, y: Option<Reach>) -> bool
+    ensures { result ≡ both_pass (λ x y. fits (both sub_span x.numbers y.numbers)) x y }
+{
+    match (x, y) {
+        (Some(x), Some(y)) => difference_is_narrow(x.numbers, y.numbers),
+        _ => false,
+    }
+}
+
+fn difference_is_narrow(x: Option<Iv>, y: Option<Iv>) -> bool
+    ensures { result ≡ fits (both sub_span x y) }
+{
+    match (x, y) {
+        (Some(x), Some(y)) => x.sub(y).is_some(),
+        _ => true,
+    }
+}
+
+pub fn product_is_fit(x: Option<Reach>, y: Option<Reach>) -> bool
+    ensures { result ≡ both_pass (λ x y. fits (both mul_span x.numbers y.numbers)) x y }
+{
+    match (x, y) {
+        (Some(x), Some(y)) => product_is_narrow(x.numbers, y.numbers),
+        _ => false,
+    }
+}
+
+fn product_is_narrow(x: Option<Iv>, y: Option<Iv>) -> bool
+    ensures { result ≡ fits (both mul_span x y) }
+{
+    match (x, y) {
+        (Some(x), Some(y)) => x.mul(y).is_some(),
+        _ => true,
+    }
+}
+
+pub fn quotient_is_fit(x: Option<Reach>, y: Option<Reach>) -> bool
+    ensures { result ≡ both_pass (λ x y. fits (both_some div_span x.numbers y.numbers)) x y }
+{
+    match (x, y) {
+        (Some(x), Some(y)) => is_narrow(quotient(x, y).numbers),
+        _ => false,
+    }
+}
+
+pub fn remainder_is_fit(x: Option<Reach>, y: Option<Reach>) -> bool
+    ensures { result ≡ both_pass (λ x y. fits (both_some mod_span x.numbers y.numbers)) x y }
+{
+    match (x, y) {
+        (Some(x), Some(y)) => is_narrow(remainder(x, y).numbers),
+        _ => false,
+    }
+}
+
+pub fn negation_is_fit(x: Option<Reach>) -> bool
+    ensures { result ≡ passes (λ x. fits (option_map neg_span x.numbers)) x }
+{
+    match x {
+        Some(x) => is_narrow(negated(x).numbers),
+        None => false,
+    }
+}
+
+pub fn magnitude_is_fit(x: Option<Reach>) -> bool
+    ensures { result ≡ passes (λ x. fits (option_map abs_span x.numbers)) x }
+{
+    match x {
+        Some(x) => is_narrow(magnitude(x).numbers),
+        None => false,
+    }
+}
+
+pub fn choice_is_fit(condition: Option<Reach>, x: Option<Reach>, y: Option<Reach>) -> bool
+    ensures { result ≡ all_pass (λ c x y. fits (either_number c x y).numbers) condition x y }
+{
+    match (condition, x, y) {
+        (Some(condition), Some(x), Some(y)) => is_narrow(either(condition, x, y).numbers),
+        _ => false,
+    }
+}
+
+/// The part is known.
+pub fn is_known(x: Option<Reach>) -> bool
+    ensures { result ≡ passes (λ x. true) x }
+{
+    x.is_some()
+}
+
+/// Both parts are known.
+pub fn are_known(x: Option<Reach>, y: Option<Reach>) -> bool
+    ensures { result ≡ both_pass (λ x y. true) x y }
+{
+    match (x, y) {
+        (Some(_), Some(_)) => true,
+        _ => false,
+    }
+}
+
+/// The three parts are known.
+pub fn all_are_known(condition: Option<Reach>, x: Option<Reach>, y: Option<Reach>) -> bool
+    ensures { result ≡ all_pass (λ c x y. true) condition x y }
+{
+    match (condition, x, y) {
+        (Some(_), Some(_), Some(_)) => true,
+        _ => false,
+    }
+}
+
+// The sum, if any, where it does not leave the limits.
+fn narrow_sum(x: Option<Iv>, y: Option<Iv>) -> Option<Option<Iv>>
+    ensures { result ≡ (if fits (both add_span x y) then Some (both add_span x y) else None) }
+{
+    match (x, y) {
+        (Some(x), Some(y)) => match x.add(y) {
+            Some(sum) => Some(Some(sum)),
+            None => None,
+        },
+        _ => Some(None),
+    }
+}
+
+/// Each sum on the way stays within the limits.
+pub fn sums_are_narrow(parts: &[Ground], sets: &[Iv]) -> bool
+    requires { IsTrue (numbers (map (checked sets.now) parts.now)) }
+    ensures { result ≡ sums_fit (Some (point (pos 0))) (map (reach sets.now) parts.now) }
+{
+    let mut total = Some(Iv::single(0));
+    for part in parts {
+        match narrow_sum(total, numbers_on(part, sets).numbers) {
+            Some(next) => total = next,
+            None => return false,
+        }
+    }
+    true
+}
+
+/// The numbers of parts that may be the number stay within the limits.
+pub fn count_is_narrow(parts: &[Ground], n: Option<Iv>, sets: &[Iv]) -> bool
+    requires { IsTrue (numbers (map (checked sets.now) parts.now)) }
+    ensures { result ≡ fits (if all_some (map (reach sets.now) parts.now) && is_some n then Some (counts (map (reach sets.now) parts.now) n) else None) }
+{
+    if n.is_none() {
+        return true;
+    }
+    let mut possible = 0usize;
+    for part in parts {
+        let x = numbers_on(part, sets).numbers;
+        if x.is_none() {
+            return true;
+        }
+        possible += one_if(meets(x, n));
+    }
+    possible <= MOST
+}
