@@ -4,10 +4,10 @@ use Rattle.std.specs.Prelude.{ℤ, pos, negsuc, ◌+ℤ◌, ◌-ℤ◌, ◌≤�
 use Rattle.std.proofs.lemmas.Int.{ints}
 use Rattle.ms_session.specs.Sets.{Set, IsSet, IsCut, Among, set_size, count_from, width}
 
-step_ℤ : (z : ℤ) (k : ℕ) → (z +ℤ pos 1) +ℤ pos k ≡ z +ℤ pos (suc k)
+pub step_ℤ : (z : ℤ) (k : ℕ) → (z +ℤ pos 1) +ℤ pos k ≡ z +ℤ pos (suc k)
 step_ℤ z k = omega (arith, ints)
 
-here_ℤ : (z : ℤ) → z +ℤ pos 0 ≡ z
+pub here_ℤ : (z : ℤ) → z +ℤ pos 0 ≡ z
 here_ℤ z = omega (arith, ints)
 
 count_none : (p : ℤ → Bool) (z : ℤ) (n : ℕ) → ((k : ℕ) → k < n → p (z +ℤ pos k) ≡ false) → count_from p z n ≡ 0
@@ -84,7 +84,7 @@ pub width_of : (x : ℤ) (n : ℕ) → x ≡ pos n → width x ≡ suc n
 width_of x n e = ap width e
 
 -- numbers that lie in a smaller interval are as many in a larger one
-window : (p : ℤ → Bool) (lo hi l h : ℤ) → lo ≤ℤ l → l ≤ℤ h → h ≤ℤ hi → ((z : ℤ) → p z ≡ true → l ≤ℤ z) → ((z : ℤ) → p z ≡ true → z ≤ℤ h) → count_from p lo (width (hi -ℤ lo)) ≡ count_from p l (width (h -ℤ l))
+pub window : (p : ℤ → Bool) (lo hi l h : ℤ) → lo ≤ℤ l → l ≤ℤ h → h ≤ℤ hi → ((z : ℤ) → p z ≡ true → l ≤ℤ z) → ((z : ℤ) → p z ≡ true → z ≤ℤ h) → count_from p lo (width (hi -ℤ lo)) ≡ count_from p l (width (h -ℤ l))
 window p lo hi l h a b c from to = by_parts (nat_of (l -ℤ lo) (omega (arith, ints, a))) (nat_of (h -ℤ l) (omega (arith, ints, b))) (nat_of (hi -ℤ h) (omega (arith, ints, c)))
   where
     outside : (z : ℤ) → (p z ≡ true → ⊥) → p z ≡ false

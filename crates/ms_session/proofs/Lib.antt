@@ -6,3 +6,9 @@ pub mod Validity
 pub mod Nexts
 pub mod Sessions
 pub mod RangeSets
+pub mod Sizes
+pub mod Turns
+pub mod Singles
+pub mod Fitting
+pub mod RangeBoxes
+pub mod Walks

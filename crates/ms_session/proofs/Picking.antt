@@ -11,7 +11,7 @@ use Rattle.ms_session.specs.Boxes.{Assignment, Box, InBox, IsBox, set_at, number
 use Rattle.ms_session.specs.Branchings.{is_open, first_open, smaller, smallest_open, named_open, places, with_least, named_or, pick, IsOrdered, compared, Before}
 use Rattle.ms_session.proofs.Counts.{IsNat, nat_of, width_of, count_some, count_split}
 
-some_is : {A : Type 0} (x y : A) → Some x ≡ Some y → x ≡ y
+pub some_is : {A : Type 0} (x y : A) → Some x ≡ Some y → x ≡ y
 some_is x y e = cc
 
 first_is_open : (b : Box) (vs : List ℕ) (v : ℕ) → first_open b vs ≡ Some v → is_open b v ≡ true
@@ -118,7 +118,7 @@ two_ends s i k e =
     let d : count_from s.has s.lo (width (s.hi -ℤ s.lo)) ≡ count_from s.has s.lo (suc k + 1) = ap (count_from s.has s.lo) (w ∙ omega arith) in
     omega (arith, a, b, c, d)
 
-one_number : (s : Set) → IsSet s → nat_le 2 (set_size s) ≡ false → (m n : ℤ) → s.has m ≡ true → s.has n ≡ true → m ≡ n
+pub one_number : (s : Set) → IsSet s → nat_le 2 (set_size s) ≡ false → (m n : ℤ) → s.has m ≡ true → s.has n ≡ true → m ≡ n
 one_number s i e m n hm hn = by_nat (nat_of (s.hi -ℤ s.lo) (let f = i.from s.hi i.high in omega (arith, ints, f)))
   where
     by_number : (k : ℕ) → s.hi -ℤ s.lo ≡ pos k → m ≡ n

@@ -38,14 +38,17 @@ highest_top x s (t ∷ ss) r z h = by_case (highest_top (s.hi +ℤ pos 1) t ss r
     by_case rest (inl e) = let f = (has_from s z e).to in omega (arith, ints, f, above)
     by_case rest (inr e) = rest e
 
+pub rising_set : (x : ℤ) (s : Span) (ss : List Span) → RisesPast x (s ∷ ss) → IsSet (set_of (s ∷ ss))
+rising_set x s ss r = record {
+  low = lo_member s ss r.1;
+  high = highest_member x s ss r;
+  from = (is_lowest x s ss r).least;
+  to = highest_top x s ss r;
+}
+
 pub ranges_set : (ss : List Span) → IsRanges ss → (z : ℤ) → is_member ss z ≡ true → IsSet (set_of ss)
 ranges_set [] r z h = absurd (cc)
-ranges_set (s ∷ ss) r z h = record {
-  low = lo_member s ss r.1;
-  high = highest_member (negsuc (2 ^ 50)) s ss r;
-  from = (is_lowest (negsuc (2 ^ 50)) s ss r).least;
-  to = highest_top (negsuc (2 ^ 50)) s ss r;
-}
+ranges_set (s ∷ ss) r z h = rising_set (negsuc (2 ^ 50)) s ss r
 
 le_from : (a b : ℤ) → int_le a b ≡ true → a ≤ℤ b
 le_from a b h = record { le = subst T (sym h) tt }
@@ -109,7 +112,7 @@ cut_is s t keep test r m h z hz kz = record { members = members; proper = ranges
     members : (z : ℤ) → is_member t z ≡ (s.has z && keep z)
     members z = m z ∙ same_kept (s.has z) (test z) (keep z) (h z)
 
-not_le : (a b : ℤ) → a <ℤ b → int_le b a ≡ false
+pub not_le : (a b : ℤ) → a <ℤ b → int_le b a ≡ false
 not_le a b l = by_test (int_le b a) refl
   where
     by_test : (t : Bool) → int_le b a ≡ t → int_le b a ≡ false

@@ -3,5 +3,6 @@ pub mod Sets
 pub mod Boxes
 pub mod Branchings
 pub mod Scopes
+pub mod Plain
 pub mod Valid
 pub mod Laws

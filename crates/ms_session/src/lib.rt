@@ -19,7 +19,9 @@ mod budget;
 mod cuts;
 mod laws;
 mod nodes;
+mod picks;
 mod session;
+mod taking;
 
 pub use budget::{Budget, Frame};
 pub use cuts::{ends, values_left, values_tried};

@@ -1,0 +1,78 @@
+-- Boxes that are kept as a list of ranges for each variable.
+use Rattle.std.proofs.Common.{◌≡◌, ◌≢◌, Some, ℕ, ◌+◌, ◌<◌, zero, suc, refl, sym, ap, ◌∙◌, subst, arith, true, false, Bool, List, [], ◌∷◌, ◌++◌, length, take, get_or, map, add-one}
+use Rattle.std.specs.Prelude.{ℤ, pos, ◌<ℤ◌, All, slice_set}
+use Rattle.std.proofs.lemmas.Bool.{false≢true}
+use Rattle.std.proofs.lemmas.List.{get_or-map, map-set, map-append, take_more}
+use Rattle.std.proofs.Math.ListN.{length-map}
+use Rattle.ms_num.specs.Span.{Span}
+use Rattle.ms_ground.specs.declared.branching.ValueChoice.{ValueChoice}
+use Rattle.ms_session.specs.Sets.{Set, IsSet, IsCut, set_of, nothing, lowest}
+use Rattle.ms_session.specs.Boxes.{Box, Each, set_at, span_of, spans_of}
+use Rattle.ms_session.specs.Branchings.{is_open, is_tried, is_left, pick}
+use Rattle.ms_ground.specs.declared.tree.Ground.{Ground}
+use Rattle.ms_ground.specs.declared.branching.Branching.{Branching}
+use Rattle.ms_session.specs.Scopes.{NoneRefuted}
+use Rattle.ms_session.specs.Plain.{box_of, lows, IsProper, Halves, Cuts}
+use Rattle.ms_session.proofs.Sizes.{open_ends}
+use Rattle.ms_session.proofs.Singles.{open_size}
+use Rattle.ms_session.proofs.Picking.{picked_is_open, open_within}
+
+pub set_read : (sets : List (List Span)) (v : ℕ) (r : List Span) → v < length sets → r ≡ get_or sets v r → set_of r ≡ set_at (box_of sets) v
+set_read sets v r l e = ap set_of e ∙ sym (get_or-map set_of sets v r nothing l)
+
+pub proper_set : (b : Box) (v : ℕ) → v < length b → IsProper b → IsSet (set_at b v)
+proper_set [] v l i = absurd (omega (arith, l))
+proper_set (s ∷ b) zero l i = i.0
+proper_set (s ∷ b) (suc v) l i = proper_set b v (omega (arith, l)) i.1
+
+box_within : (sets : List (List Span)) (v : ℕ) → v < length sets → v < length (box_of sets)
+box_within sets v l = subst (λ n. v < n) (sym (length-map sets set_of)) l
+
+pub read_proper : (sets : List (List Span)) (v : ℕ) (r : List Span) → v < length sets → r ≡ get_or sets v r → IsProper (box_of sets) → IsSet (set_of r)
+read_proper sets v r l e i = subst IsSet (sym (set_read sets v r l e)) (proper_set (box_of sets) v (box_within sets v l) i)
+
+some_ranges : (ss : List Span) → IsSet (set_of ss) → ss ≢ []
+some_ranges ss i e = false≢true (subst (λ q. (set_of q).has (set_of q).lo ≡ true) e i.low)
+
+pub read_some : (sets : List (List Span)) (v : ℕ) (r : List Span) → v < length sets → r ≡ get_or sets v r → IsProper (box_of sets) → r ≢ []
+read_some sets v r l e i = some_ranges r (read_proper sets v r l e i)
+
+pub read_open : (sets : List (List Span)) (v : ℕ) (r : List Span) → v < length sets → r ≡ get_or sets v r → IsProper (box_of sets) → is_open (box_of sets) v ≡ true → (set_of r).lo <ℤ (set_of r).hi
+read_open sets v r l e i o = subst (λ s. s.lo <ℤ s.hi) (sym (set_read sets v r l e)) (open_ends (set_at (box_of sets) v) (proper_set (box_of sets) v (box_within sets v l) i) o)
+
+-- both parts of a cut, each with the other sets as they were
+pub halves_from : (sets c d : List (List Span)) (v : ℕ) (choice : ValueChoice) (q r t u : List Span) → v < length sets → q ≡ get_or sets v q → r ≡ get_or sets v r → IsCut (is_tried choice (set_of q)) (set_of q) (set_of t) → IsCut (is_left choice (set_of r)) (set_of r) (set_of u) → c ≡ slice_set sets v t → d ≡ slice_set sets v u → Halves (box_of sets) v choice (box_of c) (box_of d)
+halves_from sets c d v choice q r t u l eq er tried left ec ed = record {
+  first = set_of t;
+  second = set_of u;
+  tried = subst (λ s. IsCut (is_tried choice s) s (set_of t)) (set_read sets v q l eq) tried;
+  left = subst (λ s. IsCut (is_left choice s) s (set_of u)) (set_read sets v r l er) left;
+  first_box = ap box_of ec ∙ map-set set_of sets v t;
+  second_box = ap box_of ed ∙ map-set set_of sets v u;
+}
+
+-- one set more
+box_more : (sets : List (List Span)) (i : ℕ) (r : List Span) → i < length sets → r ≡ get_or sets i r → box_of (take (i + 1) sets) ≡ box_of (take i sets) ++ set_of r ∷ []
+box_more sets i r l e = ap box_of (take_more sets i r l ∙ ap (λ x. take i sets ++ x ∷ []) (sym e)) ∙ map-append set_of (take i sets) (r ∷ [])
+
+lows_last : (b : Box) (s : Set) → lows (b ++ s ∷ []) ≡ lows b ++ s.lo ∷ []
+lows_last [] s = refl
+lows_last (t ∷ b) s = ap (λ p. t.lo ∷ p) (lows_last b s)
+
+pub lows_more : (sets : List (List Span)) (i : ℕ) (r : List Span) → i < length sets → r ≡ get_or sets i r → lows (box_of (take (i + 1) sets)) ≡ lows (box_of (take i sets)) ++ lowest r ∷ []
+lows_more sets i r l e = ap lows (box_more sets i r l e) ∙ lows_last (box_of (take i sets)) (set_of r)
+
+pub spans_more : (sets : List (List Span)) (i : ℕ) (r : List Span) → i < length sets → r ≡ get_or sets i r → spans_of (box_of (take (i + 1) sets)) ≡ spans_of (box_of (take i sets)) ++ span_of (set_of r) ∷ []
+spans_more sets i r l e = ap spans_of (box_more sets i r l e) ∙ map-append span_of (box_of (take i sets)) (set_of r ∷ [])
+
+-- ---- the variable that is picked
+
+pub picked_within : (br : Branching) (sets : List (List Span)) (v : ℕ) (choice : ValueChoice) → pick br (box_of sets) ≡ Some (v, choice) → v < length sets
+picked_within br sets v choice e = subst (λ n. v < n) (length-map sets set_of) (open_within (box_of sets) v (picked_is_open br (box_of sets) v choice e))
+
+pub cuts_from : (br : Branching) (cons : List Ground) (b c d : Box) (v : ℕ) (choice : ValueChoice) → IsProper b → pick br b ≡ Some (v, choice) → NoneRefuted cons b → Halves b v choice c d → Cuts br cons b c d
+cuts_from br cons b c d v choice i e n h = record {
+  several = open_size b v i (picked_is_open br b v choice e);
+  none_refuted = n;
+  picks = record { variable = v; choice = choice; picked = e; first = h.first; second = h.second; tried = h.tried; left = h.left; first_box = h.first_box; second_box = h.second_box };
+}
