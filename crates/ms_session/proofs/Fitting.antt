@@ -1,18 +1,16 @@
 -- What the laws of ground trees say of boxes: constraints are fit on smaller ones, and a refuted one is not met.
-use Rattle.std.proofs.Common.{◌≡◌, ◌⊎◌, inl, inr, ℕ, ◌+◌, ◌<◌, ◌≤◌, zero, suc, refl, sym, ap, ◌∙◌, subst, arith, true, false, Bool, if◌then◌else◌, List, [], ◌∷◌, length, map}
-use Rattle.std.specs.Prelude.{ℤ, pos, ◌≤ℤ◌, int_le, All, Any, slice_index_or}
+use Rattle.std.proofs.Common.{◌≡◌, inl, inr, ℕ, ◌<◌, zero, suc, refl, sym, ap, ◌∙◌, subst, arith, true, if◌then◌else◌, List, [], ◌∷◌, length}
+use Rattle.std.specs.Prelude.{ℤ, pos, ◌≤ℤ◌, All, Any, slice_index_or}
 use Rattle.std.proofs.lemmas.Bool.{false≢true}
-use Rattle.std.proofs.Math.ListN.{length-map}
-use Rattle.ms_num.specs.Span.{Span, Has, Inside}
+use Rattle.ms_num.specs.Span.{Has, Inside}
 use Rattle.ms_num.proofs.Spans.{of_le}
 use Rattle.ms_ground.specs.declared.tree.Ground.{Ground}
-use Rattle.ms_ground.specs.Value.{value}
 use Rattle.ms_ground.specs.Reach.{span_at}
-use Rattle.ms_ground.specs.Fit.{is_fit, IsTruth}
-use Rattle.ms_ground.specs.Laws.{LiesIn, Smaller, HasVariable, Refuted, RefutedMeansUnmet, SmallerBoxesFit}
+use Rattle.ms_ground.specs.Fit.{IsTruth}
+use Rattle.ms_ground.specs.Laws.{LiesIn, Refuted, RefutedMeansUnmet, SmallerBoxesFit}
 use Rattle.ms_session.specs.Sets.{Set, IsSet, Among}
 use Rattle.ms_session.specs.Boxes.{Assignment, Box, Each, InBox, IsBox, span_of, spans_of, declared_span, declared_spans}
-use Rattle.ms_session.specs.Scopes.{Holds, Meets, HoldsNone, IsConstraint}
+use Rattle.ms_session.specs.Scopes.{Holds, HoldsNone, IsConstraint}
 use Rattle.ms_session.specs.Valid.{IsDeclared}
 use Rattle.ms_session.specs.Plain.{IsProper}
 

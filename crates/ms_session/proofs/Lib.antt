@@ -12,3 +12,5 @@ pub mod Singles
 pub mod Fitting
 pub mod RangeBoxes
 pub mod Walks
+pub mod Stacks
+pub mod Beginnings

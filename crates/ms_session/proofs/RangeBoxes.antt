@@ -1,13 +1,13 @@
 -- Boxes that are kept as a list of ranges for each variable.
-use Rattle.std.proofs.Common.{◌≡◌, ◌≢◌, Some, ℕ, ◌+◌, ◌<◌, zero, suc, refl, sym, ap, ◌∙◌, subst, arith, true, false, Bool, List, [], ◌∷◌, ◌++◌, length, take, get_or, map, add-one}
-use Rattle.std.specs.Prelude.{ℤ, pos, ◌<ℤ◌, All, slice_set}
+use Rattle.std.proofs.Common.{◌≡◌, ◌≢◌, Some, ℕ, ◌+◌, ◌<◌, zero, suc, refl, sym, ap, ◌∙◌, subst, arith, true, List, [], ◌∷◌, ◌++◌, length, take, get_or}
+use Rattle.std.specs.Prelude.{◌<ℤ◌, slice_set}
 use Rattle.std.proofs.lemmas.Bool.{false≢true}
 use Rattle.std.proofs.lemmas.List.{get_or-map, map-set, map-append, take_more}
 use Rattle.std.proofs.Math.ListN.{length-map}
 use Rattle.ms_num.specs.Span.{Span}
 use Rattle.ms_ground.specs.declared.branching.ValueChoice.{ValueChoice}
 use Rattle.ms_session.specs.Sets.{Set, IsSet, IsCut, set_of, nothing, lowest}
-use Rattle.ms_session.specs.Boxes.{Box, Each, set_at, span_of, spans_of}
+use Rattle.ms_session.specs.Boxes.{Box, set_at, span_of, spans_of}
 use Rattle.ms_session.specs.Branchings.{is_open, is_tried, is_left, pick}
 use Rattle.ms_ground.specs.declared.tree.Ground.{Ground}
 use Rattle.ms_ground.specs.declared.branching.Branching.{Branching}
@@ -25,7 +25,7 @@ proper_set [] v l i = absurd (omega (arith, l))
 proper_set (s ∷ b) zero l i = i.0
 proper_set (s ∷ b) (suc v) l i = proper_set b v (omega (arith, l)) i.1
 
-box_within : (sets : List (List Span)) (v : ℕ) → v < length sets → v < length (box_of sets)
+pub box_within : (sets : List (List Span)) (v : ℕ) → v < length sets → v < length (box_of sets)
 box_within sets v l = subst (λ n. v < n) (sym (length-map sets set_of)) l
 
 pub read_proper : (sets : List (List Span)) (v : ℕ) (r : List Span) → v < length sets → r ≡ get_or sets v r → IsProper (box_of sets) → IsSet (set_of r)
@@ -52,7 +52,7 @@ halves_from sets c d v choice q r t u l eq er tried left ec ed = record {
 }
 
 -- one set more
-box_more : (sets : List (List Span)) (i : ℕ) (r : List Span) → i < length sets → r ≡ get_or sets i r → box_of (take (i + 1) sets) ≡ box_of (take i sets) ++ set_of r ∷ []
+pub box_more : (sets : List (List Span)) (i : ℕ) (r : List Span) → i < length sets → r ≡ get_or sets i r → box_of (take (i + 1) sets) ≡ box_of (take i sets) ++ set_of r ∷ []
 box_more sets i r l e = ap box_of (take_more sets i r l ∙ ap (λ x. take i sets ++ x ∷ []) (sym e)) ∙ map-append set_of (take i sets) (r ∷ [])
 
 lows_last : (b : Box) (s : Set) → lows (b ++ s ∷ []) ≡ lows b ++ s.lo ∷ []

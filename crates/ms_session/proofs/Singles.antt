@@ -1,6 +1,6 @@
 -- Boxes of one assignment, and boxes with a variable that is open.
-use Rattle.std.proofs.Common.{◌≡◌, ◌⊎◌, inl, inr, ℕ, ◌+◌, ◌*◌, ◌<◌, ◌≤◌, zero, suc, refl, sym, ap, ◌∙◌, subst, arith, true, false, Bool, if◌then◌else◌, List, [], ◌∷◌, length, map, Option, Some, None}
-use Rattle.std.specs.Prelude.{ℤ, pos, ◌≤ℤ◌, nat_le, option_map, All}
+use Rattle.std.proofs.Common.{◌≡◌, ◌⊎◌, inl, inr, ℕ, ◌+◌, ◌*◌, ◌<◌, ◌≤◌, zero, suc, refl, sym, ap, ◌∙◌, subst, arith, true, false, Bool, if◌then◌else◌, List, [], ◌∷◌, length, Option, Some, None}
+use Rattle.std.specs.Prelude.{ℤ, nat_le, option_map, All}
 use Rattle.ms_ground.specs.Fit.{IsTruth}
 use Rattle.std.proofs.lemmas.Int.{ints}
 use Rattle.std.proofs.lemmas.Bool.{leb-true, leb-false, cases_order}
@@ -8,9 +8,8 @@ use Rattle.ms_num.specs.Span.{Span, point}
 use Rattle.ms_ground.specs.Reach.{points}
 use Rattle.ms_ground.specs.declared.tree.Ground.{Ground}
 use Rattle.ms_ground.specs.declared.branching.Branching.{Branching}
-use Rattle.ms_ground.specs.declared.branching.ValueChoice.{ValueChoice}
 use Rattle.ms_session.specs.Sets.{Set, IsSet, set_size}
-use Rattle.ms_session.specs.Boxes.{Assignment, Box, Each, InBox, box_size, set_at, span_of, spans_of}
+use Rattle.ms_session.specs.Boxes.{Assignment, Box, InBox, box_size, span_of, spans_of}
 use Rattle.ms_session.specs.Branchings.{is_open, first_open, named_open, places, places_from, with_least, named_or, pick}
 use Rattle.ms_session.specs.Scopes.{Meets, HoldsNone, IsOnly}
 use Rattle.ms_session.specs.Plain.{lows, IsProper}

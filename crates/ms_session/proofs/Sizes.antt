@@ -7,7 +7,7 @@ use Rattle.std.proofs.lemmas.List.Sums.{sum_by-cons}
 use Rattle.ms_num.specs.Span.{Span, has}
 use Rattle.ms_num.specs.Ranges.{RisesPast, IsRanges, is_member, size_of, span_size}
 use Rattle.ms_num.proofs.Members.{has_of}
-use Rattle.ms_session.specs.Sets.{Set, IsSet, set_of, set_size, count_from, width, lowest, highest}
+use Rattle.ms_session.specs.Sets.{Set, IsSet, set_of, set_size, count_from, width, highest}
 use Rattle.ms_session.proofs.Counts.{IsNat, nat_of, width_of, window, count_split, step_ℤ, here_ℤ}
 use Rattle.ms_session.proofs.RangeSets.{rising_set, not_le}
 use Rattle.ms_session.proofs.Picking.{one_number}

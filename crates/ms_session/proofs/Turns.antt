@@ -1,7 +1,6 @@
 -- The search for a variable to split, turn by turn.
-use Rattle.std.proofs.Common.{◌≡◌, ℕ, ◌+◌, ◌-◌, ◌<◌, ◌≤◌, zero, suc, refl, sym, ap, ◌∙◌, arith, add-zero, add-one, drop-cons, true, false, Bool, if◌then◌else◌, List, [], ◌∷◌, length, drop, get_or, Option, Some, None}
+use Rattle.std.proofs.Common.{◌≡◌, ℕ, ◌+◌, ◌-◌, ◌<◌, suc, refl, sym, ap, ◌∙◌, arith, add-zero, add-one, drop-cons, true, false, Bool, if◌then◌else◌, List, ◌∷◌, length, drop, get_or, Option, Some, None}
 use Rattle.std.specs.Prelude.{nat_le}
-use Rattle.std.proofs.lemmas.Bool.{leb-true, leb-false}
 use Rattle.std.proofs.lemmas.Bool.Decides.{nat_tests}
 use Rattle.ms_session.specs.Sets.{set_size}
 use Rattle.ms_session.specs.Boxes.{Box, set_at}

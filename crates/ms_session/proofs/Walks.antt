@@ -1,5 +1,5 @@
 -- What holds of each element that a loop has passed.
-use Rattle.std.proofs.Common.{◌≡◌, Option, Some, None, ℕ, ◌+◌, ◌<◌, ◌≤◌, List, length, take, get_or, refl, sym, subst, true, false, Bool, not}
+use Rattle.std.proofs.Common.{◌≡◌, Option, Some, None, ℕ, ◌+◌, ◌<◌, ◌≤◌, List, length, take, get_or, refl, subst, true, false, Bool, not}
 use Rattle.std.specs.Prelude.{All, Any, MatchBool}
 use Rattle.std.proofs.lemmas.List.{take_all}
 use Rattle.std.proofs.lemmas.List.Elements.{All-more}

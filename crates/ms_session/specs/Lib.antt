@@ -6,3 +6,4 @@ pub mod Scopes
 pub mod Plain
 pub mod Valid
 pub mod Laws
+pub mod Stored

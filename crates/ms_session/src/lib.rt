@@ -19,12 +19,17 @@ mod budget;
 mod cuts;
 mod laws;
 mod nodes;
+mod openings;
 mod picks;
+mod plain;
+mod scope;
 mod session;
+mod stack;
 mod taking;
 
 pub use budget::{Budget, Frame};
 pub use cuts::{ends, values_left, values_tried};
 pub use laws::{limit_laws, session_laws, solution_law, validity_laws};
 pub use nodes::{Nodes, next_nodes};
+pub use plain::PlainSession;
 pub use session::{Session, Step};

@@ -1,5 +1,4 @@
 use Rattle.std.proofs.Common.{◌≡◌, take}
-use Rattle.ms_session.specs.Boxes.{spans_of}
 use Rattle.ms_session.specs.Plain.{box_of, lows}
 use Rattle.ms_session.proofs.taking.least.Given as goal
 

@@ -1,5 +1,4 @@
-use Rattle.std.proofs.Common.{arith, sym, ◌∙◌, ap, refl}
-use Rattle.ms_session.specs.Scopes.{Holds}
+use Rattle.std.proofs.Common.{arith, sym, ◌∙◌, ap}
 use Rattle.ms_session.specs.Plain.{MayBeTrue}
 use Rattle.ms_session.proofs.Walks.{passed_more, passed_all, not_false, hull_yes}
 use Rattle.ms_ground.specs.Reach.{reach}

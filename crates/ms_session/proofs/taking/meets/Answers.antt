@@ -1,6 +1,5 @@
-use Rattle.std.proofs.Common.{arith, sym, ◌∙◌, ap, refl}
+use Rattle.std.proofs.Common.{arith, sym, refl}
 use Rattle.ms_session.specs.Scopes.{Holds}
-use Rattle.ms_session.specs.Plain.{MayBeTrue}
 use Rattle.ms_session.proofs.Walks.{passed_more, passed_all}
 use Rattle.ms_session.proofs.taking.meets.Goals as goal
 

@@ -1,6 +1,6 @@
 use Rattle.std.proofs.Common.{◌≡◌, take}
 use Rattle.ms_session.specs.Boxes.{spans_of}
-use Rattle.ms_session.specs.Plain.{box_of, lows}
+use Rattle.ms_session.specs.Plain.{box_of}
 use Rattle.ms_session.proofs.taking.spans.Given as goal
 
 abbrev pub invariant-loop-set : goal.invariant-loop-set

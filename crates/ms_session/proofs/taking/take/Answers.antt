@@ -1,4 +1,4 @@
-use Rattle.std.proofs.Common.{◌≡◌, ◌∙◌, sym, ap, subst, None, Some}
+use Rattle.std.proofs.Common.{◌≡◌, ◌∙◌, sym, ap, None, Some}
 use Rattle.ms_session.specs.Branchings.{pick}
 use Rattle.ms_session.specs.Plain.{box_of}
 use Rattle.ms_session.proofs.Singles.{closed_size}

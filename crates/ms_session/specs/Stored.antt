@@ -1,0 +1,111 @@
+-- Scopes as the plain session stores them: the boxes as lists of ranges, the first one last.
+use Rattle.std.specs.Prelude.{◌≡◌, ℕ, ◌+◌, ◌≤◌, Bool, false, List, [], ◌∷◌, ◌++◌, map, reverse, length, Option, Some, None, All}
+use Rattle.ms_num.specs.Span.{Span}
+use Rattle.ms_ground.specs.declared.tree.Ground.{Ground}
+use Rattle.ms_ground.specs.declared.branching.Branching.{Branching}
+use Rattle.ms_session.specs.declared.taking.Taken.{Taken}
+use Rattle.ms_session.specs.declared.taking.Taken.TheVariants.{Dropped, Answered, Split}
+use Rattle.ms_session.specs.declared.scope.PlainScope.{PlainScope}
+use Rattle.ms_session.specs.Boxes.{Assignment, Box, Each, InBox, IsBox}
+use Rattle.ms_session.specs.Scopes.{Scope, Seen, IsConstraint, live_nodes, with_scope}
+use Rattle.ms_session.specs.Plain.{box_of, IsProper}
+use Rattle.ms_session.specs.Valid.{IsDeclared}
+
+-- the boxes of a frontier, where the first one stands last
+abbrev pub frontier_of : List (List (List Span)) → List Box
+frontier_of boxes = map box_of (reverse boxes)
+
+pub record StoredScope : Type 0 where
+  pub constraints : List Ground
+  pub given : List Assignment
+  pub boxes : List (List (List Span))
+  pub spent : ℕ
+  pub closed : Bool
+
+-- what a plain session stores; the scopes below the current one, the nearest first
+pub record Stored : Type 0 where
+  pub sets : List (List Span)
+  pub branching : Branching
+  pub scope : StoredScope
+  pub parents : List StoredScope
+  pub failed : Bool
+
+abbrev pub stored_of : PlainScope → StoredScope
+stored_of sc = record { constraints = sc.constraints; given = sc.given.items; boxes = sc.boxes.items; spent = sc.spent; closed = sc.closed }
+
+abbrev pub scope_of : StoredScope → Scope
+scope_of sc = record { cons = sc.constraints; given = sc.given; frontier = frontier_of sc.boxes; spent = sc.spent; closed = sc.closed }
+
+-- the session that is stored so
+abbrev pub seen_of : Stored → Seen
+seen_of s = record { sets = box_of s.sets; branching = s.branching; scope = scope_of s.scope; parents = map scope_of s.parents; failed = s.failed }
+
+-- no assignment lies in the box
+abbrev pub IsVoid : Box → Type 0
+IsVoid b = (p : Assignment) → InBox p b → ⊥
+
+-- the boxes with which a scope begins: that of the declared sets, unless one of these is empty
+abbrev pub AreOpening : List (List Span) → List (List (List Span)) → Type 0
+AreOpening sets [] = IsVoid (box_of sets)
+AreOpening sets (b ∷ []) = (b ≡ sets) × IsProper (box_of sets)
+AreOpening sets (b ∷ c ∷ bs) = ⊥
+
+pub record IsOpened (sets : List (List Span)) (constraints : List Ground) (live : ℕ) (sc : PlainScope) : Type 0 where
+  pub constraints_are : sc.constraints ≡ constraints
+  pub live_is : sc.live ≡ live
+  pub given : sc.given.items ≡ []
+  pub boxes : AreOpening sets sc.boxes.items
+  pub spent : sc.spent ≡ 0
+  pub closed : sc.closed ≡ false
+
+-- ---- what a node leaves
+
+abbrev pub answer_of : Taken → Option Assignment
+answer_of Dropped = None
+answer_of (Answered p) = Some p
+answer_of (Split c d) = None
+
+abbrev pub given_after : Taken → List Assignment → List Assignment
+given_after Dropped given = given
+given_after (Answered p) given = given ++ p ∷ []
+given_after (Split c d) given = given
+
+abbrev pub boxes_after : Taken → List (List (List Span)) → List (List (List Span))
+boxes_after Dropped boxes = boxes
+boxes_after (Answered p) boxes = boxes
+boxes_after (Split c d) boxes = (boxes ++ d ∷ []) ++ c ∷ []
+
+-- what was made of a box is put in its place
+pub record Puts (old : PlainScope) (taken : Taken) (answer : Option Assignment) (new : PlainScope) : Type 0 where
+  pub constraints : new.constraints ≡ old.constraints
+  pub live : new.live ≡ old.live
+  pub given : new.given.items ≡ given_after taken old.given.items
+  pub boxes : new.boxes.items ≡ boxes_after taken old.boxes.items
+  pub spent : new.spent ≡ old.spent + 1
+  pub closed : new.closed ≡ old.closed
+  pub answer_is : answer ≡ answer_of taken
+
+-- the constraints and the boxes are as they were
+pub record KeepsBoxes (old new : PlainScope) : Type 0 where
+  pub constraints : new.constraints ≡ old.constraints
+  pub live : new.live ≡ old.live
+  pub boxes : new.boxes.items ≡ old.boxes.items
+
+-- all but the current scope is as it was
+pub record KeepsParents (old new : Seen) : Type 0 where
+  pub scope : Scope
+  pub is : new ≡ with_scope old scope
+
+-- ---- what holds of each stored scope
+
+pub record IsSound (sets : Box) (sc : PlainScope) : Type 0 where
+  pub fit : All (IsConstraint sets) sc.constraints
+  pub live : sc.live ≡ live_nodes sc.constraints
+  pub boxes : All (λ b. IsBox sets (box_of b)) sc.boxes.items
+
+-- the current scope, and those below it
+pub record AreSound (sets : Box) (current : PlainScope) (parents : List PlainScope) : Type 0 where
+  pub declared : Each IsDeclared sets
+  pub scope : IsSound sets current
+  pub below : All (IsSound sets) parents
+  pub depth : length parents + 1 ≤ 200
