@@ -14,3 +14,5 @@ pub mod RangeBoxes
 pub mod Walks
 pub mod Stacks
 pub mod Beginnings
+pub mod Rooms
+pub mod Sampled

@@ -10,6 +10,7 @@ use Rattle.ms_session.specs.Sets.{set_size}
 use Rattle.ms_session.specs.Boxes.{Each, IsGiven, InSome, Assignment, Box, InBox, IsBox, Within, Disjoint, box_size, set_at, number_at}
 use Rattle.ms_session.specs.Branchings.{Picks, is_tried, is_left, IsOrdered, compared, Before}
 use Rattle.ms_session.specs.Scopes.{Meets, Splits, Node, drops, answers, splits, noded}
+use Rattle.ms_session.specs.Plain.{lows}
 use Rattle.ms_session.specs.Valid.{IsValid, AllBefore}
 use Rattle.ms_session.proofs.Counts.{size_among}
 use Rattle.ms_session.proofs.Cutting.{CutBox, cut_box, cut_is_box, box_some, size_sum}
@@ -56,11 +57,6 @@ box_length [] [] i = refl
 box_length [] (s ∷ b) i = absurd i
 box_length (d ∷ sets) [] i = absurd i
 box_length (d ∷ sets) (s ∷ b) i = ap suc (box_length sets b i.2)
-
--- the least assignment of a box
-abbrev lows : Box → Assignment
-lows [] = []
-lows (s ∷ b) = s.lo ∷ lows b
 
 lows_in : (sets b : Box) → IsBox sets b → InBox (lows b) b
 lows_in [] [] i = tt

@@ -1,13 +1,14 @@
 -- What holds of scopes and of `next`, over the definitions alone.
-use Rattle.std.specs.Prelude.{◌≡◌, ◌≢◌, ◌⊎◌, ◌+◌, ◌*◌, ◌<◌, ◌≤◌, List, [], length, Option, All}
+use Rattle.std.specs.Prelude.{◌≡◌, ◌≢◌, ◌⊎◌, ◌+◌, ◌*◌, ◌^◌, ◌<◌, ◌≤◌, List, [], ◌∷◌, length, Option, All}
 use Rattle.ms_ground.specs.declared.tree.Ground.{Ground}
 use Rattle.ms_ground.specs.declared.branching.Branching.{Branching}
 use Rattle.ms_session.specs.declared.budget.Frame.{Frame}
 use Rattle.ms_session.specs.declared.session.Step.{Step}
 use Rattle.ms_session.specs.declared.session.Step.TheVariants.{Found, NoneLeft, Spent}
+use Rattle.ms_session.specs.Frames.{outer_left}
 use Rattle.ms_session.specs.Boxes.{Each, IsGiven, Assignment, Box, InBox, box_size}
 use Rattle.ms_session.specs.Branchings.{IsOrdered, Before, compared}
-use Rattle.ms_session.specs.Scopes.{Scope, Seen, Meets, IsConstraint, Node, noded, Next, IsFresh, Enters, Leaves, posted, Steps}
+use Rattle.ms_session.specs.Scopes.{Scope, Seen, Meets, IsConstraint, Node, noded, Next, IsFresh, IsOpening, Enters, Leaves, posted, Steps, HasRoom}
 use Rattle.ms_session.specs.Valid.{IsValid, IsValidSession, IsDeclared}
 
 -- a node keeps a scope valid, its answer being given
@@ -64,3 +65,23 @@ PostingKeepsValid = (s : Seen) (g : Ground) → IsValidSession s → IsConstrain
 
 abbrev pub SteppingKeepsValid : Type 0
 SteppingKeepsValid = (old new : Seen) (fr fr' : List Frame) (step : Step) → IsValidSession old → Steps old fr step new fr' → IsValidSession new
+
+-- each scope has room for the nodes that these frames may still take
+abbrev pub AllHaveRoom : List Frame → Seen → Type 0
+AllHaveRoom fr s = Each (HasRoom fr) (s.scope ∷ s.parents)
+
+-- a session that begins has room, and each call keeps it so, where all nodes are taken from one budget
+abbrev pub OpeningHasRoom : Type 0
+OpeningHasRoom = (sets : Box) (br : Branching) (cons : List Ground) (s : Seen) (fr : List Frame) → IsOpening sets br cons s → outer_left fr < 2 ^ 64 → AllHaveRoom fr s
+
+abbrev pub EnteringKeepsRoom : Type 0
+EnteringKeepsRoom = (old new : Seen) (fr : List Frame) → AllHaveRoom fr old → Enters old new → AllHaveRoom fr new
+
+abbrev pub LeavingKeepsRoom : Type 0
+LeavingKeepsRoom = (old new : Seen) (fr : List Frame) → AllHaveRoom fr old → Leaves old new → AllHaveRoom fr new
+
+abbrev pub PostingKeepsRoom : Type 0
+PostingKeepsRoom = (s : Seen) (g : Ground) (fr : List Frame) → AllHaveRoom fr s → AllHaveRoom fr (posted s g)
+
+abbrev pub SteppingKeepsRoom : Type 0
+SteppingKeepsRoom = (old new : Seen) (fr fr' : List Frame) (step : Step) → 0 < length fr → AllHaveRoom fr old → Steps old fr step new fr' → AllHaveRoom fr' new

@@ -7,3 +7,4 @@ pub mod Plain
 pub mod Valid
 pub mod Laws
 pub mod Stored
+pub mod Samples

@@ -1,4 +1,4 @@
-ghost use Rattle.ms_session.specs.Laws.{NodesKeepValid, NextKeepsValid, FewNodes, LargeFramesNeverCut, NextIsBySolutions, OpeningIsValid, EnteringKeepsValid, LeavingKeepsValid, PostingKeepsValid, SteppingKeepsValid};
+ghost use Rattle.ms_session.specs.Laws.{NodesKeepValid, NextKeepsValid, FewNodes, LargeFramesNeverCut, NextIsBySolutions, OpeningIsValid, EnteringKeepsValid, LeavingKeepsValid, PostingKeepsValid, SteppingKeepsValid, OpeningHasRoom, EnteringKeepsRoom, LeavingKeepsRoom, PostingKeepsRoom, SteppingKeepsRoom};
 
 /// Does nothing: its contract says that each node and each `next` keeps a scope valid.
 pub fn validity_laws()
@@ -28,6 +28,16 @@ pub fn session_laws()
     ensures stepping { SteppingKeepsValid }
 {}
 
+/// Does nothing: its contract says that the nodes spent in a scope cannot leave 64 bits, where all nodes of a
+/// session are taken from one budget; so `next` may be called whatever was called before.
+pub fn room_laws()
+    ensures opening { OpeningHasRoom }
+    ensures entering { EnteringKeepsRoom }
+    ensures leaving { LeavingKeepsRoom }
+    ensures posting { PostingKeepsRoom }
+    ensures stepping { SteppingKeepsRoom }
+{}
+
 #[cfg(test)]
 mod tests {
     use super::*;
@@ -39,6 +49,7 @@ mod tests {
         limit_laws();
         solution_law();
         session_laws();
+        room_laws();
         Ok(())
     }
 }

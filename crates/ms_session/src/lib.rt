@@ -12,7 +12,11 @@
 //! [`next_nodes`] is the loop of `next` over whatever can take one node. The laws say what all this comes to: each
 //! call keeps a session valid ([`session_laws`]), an answer of `next` meets the constraints and was not given, and
 //! none is left only where all were given ([`solution_law`]), and a scope takes at most twice as many nodes as
-//! there are assignments ([`limit_laws`]).
+//! there are assignments ([`limit_laws`]). Where all nodes of a session are taken from one budget, `next` may always
+//! be called ([`room_laws`]).
+//!
+//! [`PlainSession`] is a session whose frontiers are lists of boxes, each a list of ranges for each variable. It
+//! narrows nothing: a box is dropped where the hull of a constraint refutes it, and else split.
 #![tactic(auto)]
 
 mod budget;
@@ -26,10 +30,12 @@ mod scope;
 mod session;
 mod stack;
 mod taking;
+#[cfg(test)]
+mod tests;
 
 pub use budget::{Budget, Frame};
 pub use cuts::{ends, values_left, values_tried};
-pub use laws::{limit_laws, session_laws, solution_law, validity_laws};
+pub use laws::{limit_laws, room_laws, session_laws, solution_law, validity_laws};
 pub use nodes::{Nodes, next_nodes};
 pub use plain::PlainSession;
 pub use session::{Session, Step};

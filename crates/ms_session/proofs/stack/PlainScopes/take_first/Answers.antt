@@ -1,7 +1,6 @@
 use Rattle.std.proofs.Common.{sym, subst, refl}
 use Rattle.std.specs.Prelude.{All, IfOk}
 use Rattle.ms_ground.specs.Fit.{IsTruth}
-use Rattle.ms_session.specs.declared.scope.PlainScope.{PlainScope}
 use Rattle.ms_session.specs.Boxes.{spans_of}
 use Rattle.ms_session.specs.Scopes.{NodeGives}
 use Rattle.ms_session.specs.Plain.{box_of, Takes}
@@ -16,38 +15,28 @@ take-requires-clause-proper c = box_proper (box_of c.self.inside.declared) (box_
 pub take-requires-clause-fit : goal.take-requires-clause-fit
 take-requires-clause-fit c = subst (All (IsTruth (spans_of (box_of c.in-Some.first)))) (sym c.as_slice-constraints.ensures) (all_fit c.keep_laws.ensures.fit (box_of c.self.inside.declared) (box_of c.in-Some.first) c.self.invariant.declared (last_box (box_of c.self.inside.declared) c.self.inside.current.boxes.items c.pop.new.self.items c.in-Some.first c.self.invariant.scope.boxes c.in-Some.ensures.items) c.self.inside.current.constraints c.self.invariant.scope.fit)
 
+-- the scope, the scope without its first box, and what was made of the box
+taking : (c : goal.After-put) → Taking (box_of c.self.inside.declared) c.self.inside.branching c.self.inside.current (record (c.self.inside.current) { boxes = c.pop.new.self }) c.in-Some.first c.in_ok-taken.taken
+taking c = record {
+  sound = c.self.invariant.scope;
+  constraints = refl;
+  live = refl;
+  given = refl;
+  boxes = c.in-Some.ensures.items;
+  spent = refl;
+  closed = refl;
+  takes = subst (λ q. Takes c.self.inside.branching q (box_of c.in-Some.first) c.in_ok-taken.taken) c.as_slice-constraints.ensures c.in_ok-taken.ensures;
+}
+
 pub invariant_of-self-2 : goal.invariant_of-self-2
-invariant_of-self-2 c =
-    let mid : PlainScope = record (c.self.inside.current) { boxes = c.pop.new.self } in
-    let taking : Taking (box_of c.self.inside.declared) c.self.inside.branching c.self.inside.current mid c.in-Some.first c.in_ok-taken.taken = record {
-      sound = c.self.invariant.scope;
-      constraints = refl;
-      live = refl;
-      given = refl;
-      boxes = c.in-Some.ensures.items;
-      spent = refl;
-      closed = refl;
-      takes = subst (λ q. Takes c.self.inside.branching q (box_of c.in-Some.first) c.in_ok-taken.taken) c.as_slice-constraints.ensures c.in_ok-taken.ensures;
-    } in
-    record {
-      declared = c.self.invariant.declared;
-      scope = sound_put (box_of c.self.inside.declared) c.self.inside.branching c.self.inside.current mid c.put.new.self c.in-Some.first c.in_ok-taken.taken c.put.result taking c.put.ensures.ok c.put.ensures.err;
-      below = c.self.invariant.below;
-      depth = c.self.invariant.depth;
-    }
+invariant_of-self-2 c = record {
+  declared = c.self.invariant.declared;
+  scope = sound_put (box_of c.self.inside.declared) c.self.inside.branching c.self.inside.current (record (c.self.inside.current) { boxes = c.pop.new.self }) c.put.new.self c.in-Some.first c.in_ok-taken.taken c.put.result (taking c) c.put.ensures.ok c.put.ensures.err;
+  below = c.self.invariant.below;
+  depth = c.self.invariant.depth;
+}
 
 pub returns-clause-ok : goal.returns-clause-ok
 returns-clause-ok c =
-    let mid : PlainScope = record (c.self.inside.current) { boxes = c.pop.new.self } in
-    let taking : Taking (box_of c.self.inside.declared) c.self.inside.branching c.self.inside.current mid c.in-Some.first c.in_ok-taken.taken = record {
-      sound = c.self.invariant.scope;
-      constraints = refl;
-      live = refl;
-      given = refl;
-      boxes = c.in-Some.ensures.items;
-      spent = refl;
-      closed = refl;
-      takes = subst (λ q. Takes c.self.inside.branching q (box_of c.in-Some.first) c.in_ok-taken.taken) c.as_slice-constraints.ensures c.in_ok-taken.ensures;
-    } in
-    let gives = node_put c.self.inside.declared c.self.inside.branching c.self.inside.current mid c.put.new.self c.self.inside.parents.items c.self.inside.failed c.in-Some.first c.in_ok-taken.taken c.put.result taking c.put.ensures.ok in
+    let gives = node_put c.self.inside.declared c.self.inside.branching c.self.inside.current (record (c.self.inside.current) { boxes = c.pop.new.self }) c.put.new.self c.self.inside.parents.items c.self.inside.failed c.in-Some.first c.in_ok-taken.taken c.put.result (taking c) c.put.ensures.ok in
     subst (λ q. IfOk c.put.result (λ a. NodeGives (seen_of q) a (seen_of (stored c.self.inside.declared c.self.inside.branching c.put.new.self c.self.inside.parents.items c.self.inside.failed)))) c.self.view_is gives
