@@ -1,4 +1,4 @@
-ghost use Rattle.std.specs.Prelude.{◌≡◌, ◌≤◌, ◌<◌, ◌+◌, ◌∷◌, length, false, IfOk, OnOk, OnErr, option_map};
+ghost use Rattle.std.specs.Prelude.{◌≡◌, ◌≤◌, ◌<◌, ◌+◌, length, false, IfOk, OnOk, OnErr, option_map};
 ghost use Rattle.ms_ground.specs.Size.{size_of};
 ghost use Rattle.ms_session.specs.Scopes.{Seen, last_of, live_nodes, IsConstraint, Enters, Leaves, posted, Steps, Breaks, HasRoom, Loses};
 

@@ -1,4 +1,4 @@
-ghost use Rattle.std.specs.Prelude.{◌≡◌, ◌↔◌, ◌≤◌, ◌<◌, true, All, Any, IsTrue, IfOk, MatchBool, MatchOption, length};
+ghost use Rattle.std.specs.Prelude.{◌≡◌, ◌↔◌, ◌<◌, true, All, Any, IsTrue, IfOk, MatchBool, MatchOption, length};
 ghost use Rattle.ms_ground.specs.Fit.{IsTruth};
 ghost use Rattle.ms_ground.specs.Laws.{Refuted};
 ghost use Rattle.ms_ground.specs.Reach.{points};

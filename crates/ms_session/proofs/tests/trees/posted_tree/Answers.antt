@@ -1,6 +1,6 @@
 use Rattle.ms_session.specs.Samples.{line}
 use Rattle.ms_session.proofs.Sampled.{if_ok_is, three_line, above_line, other_line}
-use Rattle.ms_session.proofs.tests.posted_tree.Goals as goal
+use Rattle.ms_session.proofs.tests.trees.posted_tree.Goals as goal
 
 pub returns-in-IsThree : goal.returns-in-IsThree
 returns-in-IsThree c = if_ok_is c.equal.result _ line c.equal.ensures three_line

@@ -1,6 +1,6 @@
 use Rattle.ms_session.specs.Samples.{square}
 use Rattle.ms_session.proofs.Sampled.{if_ok_is, true_truth, false_truth, family_two, family_three, family_four, family_five}
-use Rattle.ms_session.proofs.tests.family_tree.Goals as goal
+use Rattle.ms_session.proofs.tests.trees.family_tree.Goals as goal
 
 pub returns-in-0 : goal.returns-in-0
 returns-in-0 c = true_truth square
