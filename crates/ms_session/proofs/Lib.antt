@@ -4,6 +4,7 @@ pub mod Cutting
 pub mod Picking
 pub mod Validity
 pub mod Nexts
+pub mod Effects
 pub mod Sessions
 pub mod RangeSets
 pub mod Sizes

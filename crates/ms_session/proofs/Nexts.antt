@@ -1,16 +1,16 @@
 -- What holds of `next`, by its nodes.
-use Rattle.std.proofs.Common.{◌≡◌, ◌⊎◌, inl, inr, ℕ, ◌+◌, ◌*◌, ◌≤◌, zero, suc, refl, sym, ◌∙◌, subst, arith, rules, List, [], ◌∷◌, length, Option, Some, None}
-use Rattle.std.specs.Prelude.{if◌then◌else◌, ◌==◌}
+use Rattle.std.proofs.Common.{◌≡◌, ◌≢◌, ◌⊎◌, inl, inr, ℕ, ◌+◌, ◌≤◌, zero, suc, refl, sym, ap, ◌∙◌, subst, arith, rules, List, [], ◌∷◌, length, Option, Some, None}
+use Rattle.std.specs.Prelude.{if◌then◌else◌, ◌==◌, slice_get, option_map}
 use Rattle.ms_ground.specs.declared.branching.Branching.{Branching}
 use Rattle.ms_session.specs.declared.budget.Frame.{Frame}
 use Rattle.ms_session.specs.declared.session.Step.{Step}
 use Rattle.ms_session.specs.declared.session.Step.TheVariants.{Found, NoneLeft, Spent}
-use Rattle.ms_session.specs.Frames.{empty_from, spend_one}
-use Rattle.ms_session.specs.Boxes.{Each, EachPair, IsGiven, InSome, Assignment, Box, InBox, IsBox, box_size, frontier_nodes}
+use Rattle.ms_session.specs.Frames.{empty_from, empty_frame, spend_one, spent_frame}
+use Rattle.ms_session.specs.Boxes.{Each, EachPair, IsGiven, InSome, Assignment, Box, InBox, IsBox, frontier_nodes}
 use Rattle.ms_session.specs.Branchings.{IsOrdered, compared, Before}
-use Rattle.ms_session.specs.Scopes.{Scope, Meets, Node, answers, after_node, none_left, stops, gives, goes_on}
+use Rattle.ms_session.specs.Scopes.{Scope, Meets, Node, Next, answers, after_node, none_left, stops, gives, goes_on}
 use Rattle.ms_session.specs.Valid.{IsValid, AllBefore}
-use Rattle.ms_session.specs.Laws.{NodesKeepValid, NextKeepsValid, FewNodes, HasEnough, LargeFramesNeverCut, IsNewSolution, BySolutions, NextIsBySolutions}
+use Rattle.ms_session.specs.Laws.{NodesKeepValid, NextKeepsValid, FewNodes, HasEnough, LargeFrameNeverCuts, EnoughStaysEnough, IsNewSolution, BySolutions, NextIsBySolutions}
 use Rattle.ms_session.proofs.Cutting.{box_some}
 use Rattle.ms_session.proofs.Validity.{node_valid, box_in_sets, box_length}
 
@@ -26,39 +26,87 @@ next_keeps_valid sets br sc sc' fr fr' step v (goes_on {fs = fs} e n h) = next_k
 pub few_nodes : FewNodes
 few_nodes sets br sc v = let h = v.bounded in omega (arith, h)
 
+zero_plus : (n : ℕ) → 0 + n ≡ n
+zero_plus n = omega arith
+
+later : (j k : ℕ) → j + suc k ≡ suc j + k
+later j k = omega arith
+
+some_same : (a b : ℕ) → Some a ≡ Some b → a ≡ b
+some_same a b e = ap (or_else a) e
+  where
+    or_else : ℕ → Option ℕ → ℕ
+    or_else d None = d
+    or_else d (Some x) = x
+
 -- the test of a number above 0
 not_first : (n : ℕ) (x y : Option ℕ) → (if suc n == 0 then x else y) ≡ y
 not_first n x y = search rules
 
--- a frame of which something is left
-not_empty : (k : ℕ) (fr : List Frame) → Each (λ f. 1 ≤ f.left) fr → empty_from k fr ≡ None
-not_empty k [] e = refl
-not_empty k (f ∷ fr) e = by_left (f.left) e.0 (not_empty (suc k) fr e.1)
+-- the place of an empty frame is counted from the first
+empty_at_least : (j k : ℕ) (fr : List Frame) → empty_from j fr ≡ Some k → j ≤ k
+empty_at_least j k [] e = absurd cc
+empty_at_least j k (f ∷ fr) e = by_left (f.left) (empty_at_least (suc j) k fr) e
   where
-    by_left : (n : ℕ) → 1 ≤ n → empty_from (suc k) fr ≡ None → (if n == 0 then Some k else empty_from (suc k) fr) ≡ None
-    by_left zero l h = absurd (omega (arith, l))
-    by_left (suc n) l h = not_first n (Some k) (empty_from (suc k) fr) ∙ h
+    by_left : (n : ℕ) → (empty_from (suc j) fr ≡ Some k → suc j ≤ k) → (if n == 0 then Some j else empty_from (suc j) fr) ≡ Some k → j ≤ k
+    by_left zero after h = let s : j ≡ k = some_same j k h in omega (arith, s)
+    by_left (suc n) after h = let l = after (sym (not_first n (Some j) (empty_from (suc j) fr)) ∙ h) in omega (arith, l)
 
-some_left : (sets : Box) (sc : Scope) (fr : List Frame) → sc.spent + 1 ≤ 2 * box_size sets → Each (HasEnough sets sc) fr → Each (λ f. 1 ≤ f.left) fr
-some_left sets sc [] l e = tt
-some_left sets sc (f ∷ fr) l e = (let h = e.0 in omega (arith, l, h), some_left sets sc fr l e.1)
+-- a frame of which something is left is not the empty one
+not_empty : (j k : ℕ) (fr : List Frame) (f : Frame) → slice_get fr k ≡ Some f → 1 ≤ f.left → empty_from j fr ≢ Some (j + k)
+not_empty j k [] f e l = λ q. absurd cc
+not_empty j zero (g ∷ fr) f e l = by_left (g.left) (ap left_or (sym e))
+  where
+    left_or : Option Frame → ℕ
+    left_or None = 0
+    left_or (Some f) = f.left
 
-enough_after : (sets : Box) (sc : Scope) (fs : List Box) (fr : List Frame) → Each (HasEnough sets sc) fr → Each (HasEnough sets (after_node sc fs)) (spend_one fr)
-enough_after sets sc fs [] e = tt
-enough_after sets sc fs (f ∷ fr) e = (let h = e.0 in omega (arith, h), enough_after sets sc fs fr e.1)
+    by_left : (n : ℕ) → f.left ≡ n → (if n == 0 then Some j else empty_from (suc j) fr) ≢ Some (j + 0)
+    by_left zero is = λ q. absurd (omega (arith, l, is))
+    by_left (suc n) is = λ q. let m = empty_at_least (suc j) (j + 0) fr (sym (not_first n (Some j) (empty_from (suc j) fr)) ∙ q) in absurd (omega (arith, m))
+not_empty j (suc k) (g ∷ fr) f e l = by_left (g.left) (not_empty (suc j) k fr f e l)
+  where
+    by_left : (n : ℕ) → empty_from (suc j) fr ≢ Some (suc j + k) → (if n == 0 then Some j else empty_from (suc j) fr) ≢ Some (j + suc k)
+    by_left zero after = λ q. let s : j ≡ j + suc k = some_same j (j + suc k) q in absurd (omega (arith, s))
+    by_left (suc n) after = λ q. after (sym (not_first n (Some j) (empty_from (suc j) fr)) ∙ q ∙ ap Some (later j k))
+
+-- the same frame after one node
+spent_at : (fr : List Frame) (k : ℕ) (f : Frame) → slice_get fr k ≡ Some f → slice_get (spend_one fr) k ≡ Some (spent_frame f)
+spent_at [] k f e = absurd cc
+spent_at (g ∷ fr) zero f e = ap (option_map spent_frame) e
+spent_at (g ∷ fr) (suc k) f e = spent_at fr k f e
+
+enough_after : (sets : Box) (sc : Scope) (fs : List Box) (f : Frame) → HasEnough sets sc f → HasEnough sets (after_node sc fs) (spent_frame f)
+enough_after sets sc fs f h = omega (arith, h)
+
+same_frame : (fr : List Frame) (k : ℕ) (f g : Frame) → slice_get fr k ≡ Some f → slice_get fr k ≡ Some g → f ≡ g
+same_frame fr k f g e h = ap (or_else f) (sym e ∙ h)
+  where
+    or_else : Frame → Option Frame → Frame
+    or_else d None = d
+    or_else d (Some x) = x
 
 frontier_some : (sets : Box) (fs : List Box) (b : Box) (rest : List Box) → fs ≡ b ∷ rest → Each (IsBox sets) fs → 1 ≤ frontier_nodes fs
 frontier_some sets [] b rest e i = absurd (cc)
 frontier_some sets (c ∷ fs) b rest e i = let h = box_some sets c i.0 in omega (arith, h)
 
-pub large_frames_never_cut : LargeFramesNeverCut
-large_frames_never_cut sets br sc sc' fr fr' step v e (none_left h) = λ q. absurd (cc)
-large_frames_never_cut sets br sc sc' fr fr' step v e (stops {b = b} {rest = rest} h k) = λ q.
+never_cut : (sets : Box) (br : Branching) (sc sc' : Scope) (fr fr' : List Frame) (step : Step) (k : ℕ) (f : Frame) → step ≡ Spent → IsValid sets br sc → Next sets br sc fr step sc' fr' → slice_get fr k ≡ Some f → HasEnough sets sc f → empty_frame fr' ≢ Some k
+never_cut sets br sc sc' fr fr' step k f is v (none_left h) at e = absurd cc
+never_cut sets br sc sc' fr fr' step k f is v (stops {b = b} {rest = rest} h _) at e =
     let s = frontier_some sets (sc.frontier) b rest h v.boxes in
     let t = v.bounded in
-    let n = not_empty 0 fr (some_left sets sc fr (omega (arith, s, t)) e) in absurd (cc)
-large_frames_never_cut sets br sc sc' fr fr' step v e (gives h n) = λ q. absurd (cc)
-large_frames_never_cut sets br sc sc' fr fr' step v e (goes_on {fs = fs} k n h) = large_frames_never_cut sets br (after_node sc fs) sc' (spend_one fr) fr' step (nodes_keep_valid sets br sc None fs v n) (enough_after sets sc fs fr e) h
+    λ q. not_empty 0 k fr f at (omega (arith, s, t, e)) (q ∙ ap Some (sym (zero_plus k)))
+never_cut sets br sc sc' fr fr' step k f is v (gives h n) at e = absurd cc
+never_cut sets br sc sc' fr fr' step k f is v (goes_on {fs = fs} _ n h) at e = never_cut sets br (after_node sc fs) sc' (spend_one fr) fr' step k (spent_frame f) is (nodes_keep_valid sets br sc None fs v n) h (spent_at fr k f at) (enough_after sets sc fs f e)
+
+pub large_frame_never_cuts : LargeFrameNeverCuts
+large_frame_never_cuts sets br sc sc' fr fr' k f v n = never_cut sets br sc sc' fr fr' Spent k f refl v n
+
+pub enough_stays_enough : EnoughStaysEnough
+enough_stays_enough sets br sc sc' fr fr' step k f f' (none_left h) at now e = let s = same_frame fr k f f' at now in subst (HasEnough sets sc) s e
+enough_stays_enough sets br sc sc' fr fr' step k f f' (stops h _) at now e = let s = same_frame fr k f f' at now in subst (HasEnough sets sc) s e
+enough_stays_enough sets br sc sc' fr fr' step k f f' (gives {p = p} {fs = fs} _ n) at now e = let s = same_frame (spend_one fr) k (spent_frame f) f' (spent_at fr k f at) now in subst (HasEnough sets (after_node sc fs)) s (enough_after sets sc fs f e)
+enough_stays_enough sets br sc sc' fr fr' step k f f' (goes_on {fs = fs} _ n h) at now e = enough_stays_enough sets br (after_node sc fs) sc' (spend_one fr) fr' step k (spent_frame f) f' h (spent_at fr k f at) now (enough_after sets sc fs f e)
 
 before_some : (br : Branching) (sets b : Box) (bs : List Box) (p q : Assignment) → IsBox sets b → Each (AllBefore br b) bs → InBox p b → InSome q bs → Before (compared br (length sets)) p q
 before_some br sets b [] p q i a hp hq = absurd hq

@@ -1,14 +1,14 @@
 -- What holds of scopes and of `next`, over the definitions alone.
-use Rattle.std.specs.Prelude.{◌≡◌, ◌≢◌, ◌⊎◌, ◌+◌, ◌*◌, ◌^◌, ◌<◌, ◌≤◌, List, [], ◌∷◌, length, Option, All}
+use Rattle.std.specs.Prelude.{◌≡◌, ◌≢◌, ◌⊎◌, ℕ, ◌+◌, ◌*◌, ◌^◌, ◌<◌, ◌≤◌, true, List, [], ◌∷◌, ◌++◌, length, slice_get, Option, Some, All}
 use Rattle.ms_ground.specs.declared.tree.Ground.{Ground}
 use Rattle.ms_ground.specs.declared.branching.Branching.{Branching}
 use Rattle.ms_session.specs.declared.budget.Frame.{Frame}
 use Rattle.ms_session.specs.declared.session.Step.{Step}
 use Rattle.ms_session.specs.declared.session.Step.TheVariants.{Found, NoneLeft, Spent}
-use Rattle.ms_session.specs.Frames.{outer_left}
+use Rattle.ms_session.specs.Frames.{empty_frame, spend_many, outer_left}
 use Rattle.ms_session.specs.Boxes.{Each, IsGiven, Assignment, Box, InBox, box_size}
 use Rattle.ms_session.specs.Branchings.{IsOrdered, Before, compared}
-use Rattle.ms_session.specs.Scopes.{Scope, Seen, Meets, IsConstraint, Node, noded, Next, IsFresh, IsOpening, Enters, Leaves, posted, Steps, HasRoom}
+use Rattle.ms_session.specs.Scopes.{Scope, Seen, last_of, Meets, IsConstraint, Node, noded, Next, IsFresh, IsOpening, Enters, Leaves, posted, Steps, HasRoom}
 use Rattle.ms_session.specs.Valid.{IsValid, IsValidSession, IsDeclared}
 
 -- a node keeps a scope valid, its answer being given
@@ -26,9 +26,13 @@ FewNodes = (sets : Box) (br : Branching) (sc : Scope) → IsValid sets br sc →
 abbrev pub HasEnough : Box → Scope → Frame → Type 0
 HasEnough sets sc f = 2 * box_size sets ≤ sc.spent + f.left
 
--- where each frame has, `next` is never cut
-abbrev pub LargeFramesNeverCut : Type 0
-LargeFramesNeverCut = (sets : Box) (br : Branching) (sc sc' : Scope) (fr fr' : List Frame) (step : Step) → IsValid sets br sc → Each (HasEnough sets sc) fr → Next sets br sc fr step sc' fr' → step ≢ Spent
+-- such a frame is never the one that cuts `next`, whatever the other frames have
+abbrev pub LargeFrameNeverCuts : Type 0
+LargeFrameNeverCuts = (sets : Box) (br : Branching) (sc sc' : Scope) (fr fr' : List Frame) (k : ℕ) (f : Frame) → IsValid sets br sc → Next sets br sc fr Spent sc' fr' → slice_get fr k ≡ Some f → HasEnough sets sc f → empty_frame fr' ≢ Some k
+
+-- and after `next` it still has enough
+abbrev pub EnoughStaysEnough : Type 0
+EnoughStaysEnough = (sets : Box) (br : Branching) (sc sc' : Scope) (fr fr' : List Frame) (step : Step) (k : ℕ) (f f' : Frame) → Next sets br sc fr step sc' fr' → slice_get fr k ≡ Some f → slice_get fr' k ≡ Some f' → HasEnough sets sc f → HasEnough sets sc' f'
 
 -- p is an assignment that meets the constraints and was not given; under an ordered branching it is the least
 pub record IsNewSolution (sets : Box) (br : Branching) (sc : Scope) (p : Assignment) : Type 0 where
@@ -49,6 +53,47 @@ BySolutions sets br sc Spent = Unit {0}
 
 abbrev pub NextIsBySolutions : Type 0
 NextIsBySolutions = (sets : Box) (br : Branching) (sc sc' : Scope) (fr fr' : List Frame) (step : Step) → IsValid sets br sc → Next sets br sc fr step sc' fr' → BySolutions sets br sc step
+
+-- an answer is given now, and is the last
+pub record LeavesAnswer (old new : Scope) (p : Assignment) : Type 0 where
+  pub given : new.given ≡ old.given ++ p ∷ []
+  pub last : last_of new.given ≡ Some p
+  pub closed : new.closed ≡ old.closed
+
+-- the search of the scope has come to its end
+pub record LeavesEnd (old new : Scope) : Type 0 where
+  pub given : new.given ≡ old.given
+  pub frontier : new.frontier ≡ []
+  pub closed : new.closed ≡ true
+
+-- a box is left, and the frame that has cut
+pub record LeavesCut (old new : Scope) (after : List Frame) : Type 0 where
+  pub given : new.given ≡ old.given
+  pub some : new.frontier ≢ []
+  pub closed : new.closed ≡ old.closed
+  pub frame : ℕ
+  pub cut : empty_frame after ≡ Some frame
+
+abbrev pub LeavesBy : Step → Scope → Scope → List Frame → Type 0
+LeavesBy (Found p) old new after = LeavesAnswer old new p
+LeavesBy NoneLeft old new after = LeavesEnd old new
+LeavesBy Spent old new after = LeavesCut old new after
+
+-- what `next` leaves: the constraints as they were, the nodes that it took counted in the scope and taken from each
+-- frame, and the rest by its answer
+pub record NextLeaves (old : Scope) (before : List Frame) (step : Step) (new : Scope) (after : List Frame) : Type 0 where
+  pub cons : new.cons ≡ old.cons
+  pub nodes : ℕ
+  pub spent : new.spent ≡ old.spent + nodes
+  pub frames : after ≡ spend_many nodes before
+  pub by_step : LeavesBy step old new after
+
+abbrev pub NextHasItsEffect : Type 0
+NextHasItsEffect = (sets : Box) (br : Branching) (sc sc' : Scope) (fr fr' : List Frame) (step : Step) → Next sets br sc fr step sc' fr' → NextLeaves sc fr step sc' fr'
+
+-- where the search has come to its end, all was given
+abbrev pub ClosedMeansAllGiven : Type 0
+ClosedMeansAllGiven = (sets : Box) (br : Branching) (sc : Scope) → IsValid sets br sc → sc.closed ≡ true → AllGiven sets sc
 
 -- a session that begins is valid, and each call keeps it so
 abbrev pub OpeningIsValid : Type 0

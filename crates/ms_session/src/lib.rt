@@ -35,7 +35,7 @@ mod tests;
 
 pub use budget::{Budget, Frame};
 pub use cuts::{ends, values_left, values_tried};
-pub use laws::{limit_laws, room_laws, session_laws, solution_law, validity_laws};
+pub use laws::{effect_laws, limit_laws, room_laws, session_laws, solution_law, validity_laws};
 pub use nodes::{Nodes, next_nodes};
 pub use plain::PlainSession;
 pub use session::{Session, Step};
