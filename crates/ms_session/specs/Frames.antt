@@ -16,7 +16,7 @@ number_in f = f.number
 
 -- a frame loses one node
 abbrev pub spent_frame : Frame → Frame
-spent_frame f = record { number = f.number; left = f.left - 1 }
+spent_frame f = record f { left = f.left - 1 }
 
 -- each frame loses one node
 abbrev pub spend_one : List Frame → List Frame

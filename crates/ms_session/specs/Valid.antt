@@ -1,4 +1,4 @@
--- What holds of every scope and every session that can be reached.
+-- What holds of every session while each call answers Ok, and of each of its scopes.
 use Rattle.std.specs.Prelude.{◌≡◌, ◌⊎◌, ◌+◌, ◌*◌, ◌≤◌, true, false, ℤ, List, [], ◌∷◌, ◌++◌, length, All}
 use Rattle.ms_ground.specs.declared.tree.Ground.{Ground}
 use Rattle.ms_ground.specs.declared.branching.Branching.{Branching}

@@ -10,12 +10,15 @@ use std::alloc::AllocError;
 pub trait Nodes {
     ghost seen: { Self → Seen };
 
+    /// Whether no box is left to be searched.
     fn is_empty(&self) -> bool
         ensures { IsTrue result ↔ ((seen self.now).scope.frontier ≡ []) };
 
+    /// Notes that the search of the scope has come to its end.
     fn close(&mut self)
         ensures { seen self.new ≡ with_scope (seen self.old) (record ((seen self.old).scope) { closed = true }) };
 
+    /// Takes the first box, which is dropped, answered or split.
     fn node(&mut self) -> Result<Option<Point>, AllocError>
         requires some { (seen self.old).scope.frontier ≢ [] }
         requires room { (seen self.old).scope.spent + 1 < 2 ^ 64 }

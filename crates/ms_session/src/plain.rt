@@ -42,7 +42,7 @@ impl PlainSession {
         branching: Branching,
     ) -> Result<PlainSession, AllocError>
         requires fit { All (IsConstraint (box_of sets.now)) constraints.now }
-        requires room { live_nodes constraints.now ≤ 2000000 }
+        requires total { live_nodes constraints.now ≤ 2000000 }
         ensures opening { IfOk result (λ session. IsOpening (box_of sets.now) branching constraints.now (seen_of session)) }
         ensures valid { IfOk result (λ session. IsValidSession (seen_of session)) }
     {

@@ -20,8 +20,8 @@ pub enum Step {
 
 /// Nested scopes, in each of which solutions are searched, however the boxes are kept.
 ///
-/// There is always a current scope. After want of memory a session is failed: its current scope may be anything,
-/// the scopes below it stand, and it can only be left.
+/// There is always a current scope. After want of memory a session is failed from then on: that scope may be
+/// anything, and those below it stand. It still says how it stands, and its scopes can be left.
 pub trait Session {
     /// The declared sets, the branching, the scopes, and whether memory was refused.
     ghost seen: { Self → Seen };
@@ -30,6 +30,7 @@ pub trait Session {
     fn depth(&self) -> usize
         ensures { result ≡ length (seen self.now).parents + 1 };
 
+    /// Whether memory was refused.
     fn failed(&self) -> bool
         ensures { result ≡ (seen self.now).failed };
 
@@ -43,7 +44,7 @@ pub trait Session {
 
     /// Begins a scope with the constraints of the current one.
     fn enter(&mut self) -> Result<(), AllocError>
-        requires live { (seen self.old).failed ≡ false }
+        requires usable { (seen self.old).failed ≡ false }
         requires depth { length (seen self.old).parents + 1 < 200 }
         ensures ok { OnOk result (Enters (seen self.old) (seen self.new)) }
         ensures err { OnErr result (Breaks (seen self.old) (seen self.new)) };
@@ -55,15 +56,15 @@ pub trait Session {
 
     /// Adds a constraint to the current scope.
     fn post(&mut self, g: &Ground) -> Result<(), AllocError>
-        requires live { (seen self.old).failed ≡ false }
+        requires usable { (seen self.old).failed ≡ false }
         requires fit { IsConstraint (seen self.old).sets g.now }
-        requires room { live_nodes (seen self.old).scope.cons + size_of g.now ≤ 2000000 }
+        requires total { live_nodes (seen self.old).scope.cons + size_of g.now ≤ 2000000 }
         ensures ok { OnOk result (seen self.new ≡ posted (seen self.old) g.now) }
         ensures err { OnErr result (Breaks (seen self.old) (seen self.new)) };
 
     /// Searches the current scope for one more solution. Each node is taken from each frame.
     fn next(&mut self, budget: &mut Budget) -> Result<Step, AllocError>
-        requires live { (seen self.old).failed ≡ false }
+        requires usable { (seen self.old).failed ≡ false }
         requires room { HasRoom budget.old (seen self.old).scope }
         ensures ok { IfOk result (λ step. Steps (seen self.old) budget.old step (seen self.new) budget.new) }
         ensures err { OnErr result (Breaks (seen self.old) (seen self.new) × Loses budget.old budget.new) };

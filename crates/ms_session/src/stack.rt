@@ -52,7 +52,7 @@ impl PlainScopes {
         branching: Branching,
     ) -> Result<PlainScopes, AllocError>
         requires fit { All (IsConstraint (box_of sets.now)) constraints.now }
-        requires room { live_nodes constraints.now ≤ 2000000 }
+        requires total { live_nodes constraints.now ≤ 2000000 }
         ensures opening { IfOk result (λ scopes. IsOpening (box_of sets.now) branching constraints.now (seen_of scopes)) }
         ensures valid { IfOk result (λ scopes. IsValidSession (seen_of scopes)) }
     {
@@ -118,7 +118,7 @@ impl PlainScopes {
 
     pub fn post(&mut self, constraint: &Ground) -> Result<(), AllocError>
         requires fit { IsConstraint (seen_of self.old).sets constraint.now }
-        requires room { live_nodes (seen_of self.old).scope.cons + size_of constraint.now ≤ 2000000 }
+        requires total { live_nodes (seen_of self.old).scope.cons + size_of constraint.now ≤ 2000000 }
         ensures ok { OnOk result (seen_of self.new ≡ posted (seen_of self.old) constraint.now) }
         ensures err { OnErr result (Breaks (seen_of self.old) (seen_of self.new)) }
     {
@@ -148,7 +148,7 @@ impl PlainScopes {
 
     fn add_constraint(&mut self, constraint: &Ground) -> Result<(), AllocError>
         requires fit { IsConstraint (seen_of self.old).sets constraint.now }
-        requires room { live_nodes (seen_of self.old).scope.cons + size_of constraint.now ≤ 2000000 }
+        requires total { live_nodes (seen_of self.old).scope.cons + size_of constraint.now ≤ 2000000 }
         ensures ok { OnOk result (seen_of self.new ≡ posted (seen_of self.old) constraint.now) }
         ensures err { OnErr result (self.new ≡ self.old) }
     {
