@@ -7,7 +7,9 @@ use std::marker::Model;
 /// A limit on nodes, and what is left of it.
 #[derive(Clone, Copy, Debug, PartialEq, Eq)]
 pub struct Frame {
+    /// With how many nodes it began.
     pub number: u64,
+    /// How many of them are left.
     pub left: u64,
 }
 
@@ -142,6 +144,9 @@ mod tests {
         budget.pop();
         budget.pop();
         assert_eq!(rt; (budget.len(), budget.empty_frame()), (1, None));
+        budget.push(0)?;
+        assert_eq!(rt; budget.empty_frame(), Some(1));
+        let mut budget = Budget::new(rt.alloc(), 5)?;
         budget.push(0)?;
         assert_eq!(rt; budget.empty_frame(), Some(1));
         Ok(())

@@ -100,3 +100,48 @@ fn size(set: &Ranges) -> u64
     let _rising = set.ranges();
     set.size()
 }
+
+#[cfg(test)]
+mod tests {
+    use super::*;
+    use ms_ground::Order;
+    use ms_num::Iv;
+    use std::test::Fail;
+
+    #[test]
+    fn picked_variables(rt: HostRuntime) -> Result<(), Fail> {
+        use ValueChoice::{Greatest, Least};
+        let alloc = rt.alloc();
+        // Four values, one, two and two.
+        let sets = [
+            Ranges::from_iv(alloc, Iv::new(0, 3))?,
+            Ranges::from_iv(alloc, Iv::new(5, 5))?,
+            Ranges::from_iv(alloc, Iv::new(0, 1))?,
+            Ranges::from_iv(alloc, Iv::new(7, 8))?,
+        ];
+        let single = [Ranges::from_iv(alloc, Iv::new(5, 5))?];
+        let rows: [(&[u32], bool, usize, ValueChoice); 11] = [
+            (&[0, 2], false, 0, Greatest),
+            (&[1, 3, 2], false, 3, Greatest),
+            (&[1, 1, 2, 2], false, 2, Greatest),
+            (&[9, 2], false, 2, Greatest),
+            (&[0, 3, 2], true, 3, Greatest),
+            (&[0, 2, 3], true, 2, Greatest),
+            (&[0, 1, 0, 3, 3], true, 3, Greatest),
+            (&[9, 0], true, 0, Greatest),
+            (&[], false, 0, Least),
+            (&[1], true, 0, Least),
+            (&[9], false, 0, Least),
+        ];
+        for (order, by_size, variable, value) in rows {
+            let branching = Branching {
+                order: Order::from_vec(Vec::from_slice(alloc, order)?),
+                by_size,
+                value: Greatest,
+            };
+            assert_eq!(rt; pick(&sets, &branching), Some((variable, value)));
+            assert_eq!(rt; pick(&single, &branching), None);
+        }
+        Ok(())
+    }
+}
