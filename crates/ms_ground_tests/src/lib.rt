@@ -9,6 +9,8 @@
 mod family;
 #[cfg(test)]
 mod tests;
+#[cfg(test)]
 mod words;
 
+#[cfg(test)]
 pub use words::{Both, List, One, Word, tree};
