@@ -10,10 +10,12 @@
 //! exactly where `Fails` does, and a token exactly where one is spelled, none has a longer spelling there, and
 //! nothing fails. So a reader of the rules needs no look at `form`.
 //!
-//! Contracts see a [`Word`] as its bytes; the other types are plain data. The laws on bytes and their list of
+//! Contracts see a [`Word`] as its bytes and a tree through a view as plain data (`Tree`), so that a copy of a tree
+//! is one with the same view; the other types are plain data. The laws on bytes and their list of
 //! tokens are the contracts of [`one_reading`], [`some_reading`] and [`spaced_tokens`].
 #![tactic(auto)]
 
+mod copies;
 mod kind;
 mod laws;
 mod plain;
