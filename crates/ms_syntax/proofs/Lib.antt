@@ -4,8 +4,7 @@ pub mod Decided
 pub mod Exists
 pub mod Faults
 pub mod Keywords
-pub mod KindLemmas
-pub mod PlainLemmas
+pub mod OneAnswer
 pub mod Runs
 pub mod Spelled
 pub mod Symbols

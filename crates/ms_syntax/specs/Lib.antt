@@ -6,7 +6,6 @@ pub mod Grammar
 pub mod Grouping
 pub mod Keywords
 pub mod Kind
-pub mod Plain
-pub mod PlainReading
+pub mod OneAnswer
 pub mod Spelling
 pub mod Tree

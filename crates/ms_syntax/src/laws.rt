@@ -6,6 +6,8 @@ ghost use Rattle.ms_syntax.specs.Failing.{Fails};
 ghost use Rattle.ms_syntax.specs.Form.{blank, token, fault, form};
 ghost use Rattle.ms_syntax.specs.Cut.{HasTokens, HasFault};
 ghost use Rattle.ms_syntax.specs.Spelling.{Spells, IsNumber, AllSpell, spaced, written, IsWellFormed};
+ghost use Rattle.ms_syntax.specs.Grammar.{Writes, WritesTree, WritesPairs};
+ghost use Rattle.ms_syntax.specs.OneAnswer.{OneAnswer};
 
 use crate::token::{LexKind, Spanned, Token};
 
@@ -52,10 +54,18 @@ pub fn spaced_tokens()
     ensures well_formed { (file : ℕ) (bytes : List ℕ) (ts : List Spanned) → HasTokens file bytes ts → All (λ y. IsWellFormed y.token) ts }
 {}
 
+/// Tokens have one answer at most, in each language of the grammar: a value that is written so, the first token
+/// that cannot stand there, or the first that nests too deep.
+pub fn one_answer()
+    ensures expressions { OneAnswer Writes }
+    ensures models { OneAnswer WritesTree }
+    ensures assignments { OneAnswer WritesPairs }
+{}
+
 #[cfg(test)]
 mod tests {
     use crate::{
-        Keyword, Symbol, Token, Word, decided_form, longest_form, one_plain_model, one_reading,
+        Keyword, Symbol, Token, Word, decided_form, longest_form, one_answer, one_reading,
         some_reading, spaced_tokens,
     };
     use std::test::Fail;
@@ -76,7 +86,7 @@ mod tests {
         longest_form();
         decided_form();
         spaced_tokens();
-        one_plain_model();
+        one_answer();
         Ok(())
     }
 }

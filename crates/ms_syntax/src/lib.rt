@@ -18,14 +18,10 @@
 mod copies;
 mod kind;
 mod laws;
-mod plain;
 mod token;
 mod tree;
 
-pub use laws::{decided_form, longest_form, one_reading, some_reading, spaced_tokens};
-pub use plain::{
-    Comparison, Number, PlainDeclaration, PlainModel, Relation, Term, Total, one_plain_model,
-};
+pub use laws::{decided_form, longest_form, one_answer, one_reading, some_reading, spaced_tokens};
 pub use token::{Keyword, LexKind, Place, Spanned, Symbol, Token, Word};
 pub use tree::{
     Arm, Assignment, Assignments, Base, Binder, Declaration, Expr, Generator, Generators, Goal,

@@ -1,6 +1,6 @@
 -- The constraints of a small model may be asked on each assignment within its domains.
-use Rattle.std.proofs.Common.{◌≡◌, ℕ, zero, suc, ◌+◌, ◌-◌, ◌*◌, ◌^◌, ◌<◌, ◌≤◌, List, [], ◌∷◌, length, Bool, true, false, not, ◌&&◌, ◌||◌, Option, Some, None, map, refl, sym, ap, ◌∙◌, subst, arith, T, lit<}
-use Rattle.std.specs.Prelude.{ℤ, pos, negsuc, ◌+ℤ◌, ◌≤ℤ◌, int_le, nat_le, nat_lt, is_some, unwrap_or, fold, slice_index_or, if◌then◌else◌}
+use Rattle.std.proofs.Common.{◌≡◌, ℕ, zero, suc, ◌+◌, ◌-◌, ◌*◌, ◌^◌, ◌<◌, ◌≤◌, List, [], ◌∷◌, length, Bool, true, false, ◌&&◌, ◌||◌, Option, Some, None, map, refl, ap, ◌∙◌, subst, arith, lit<}
+use Rattle.std.specs.Prelude.{ℤ, pos, negsuc, ◌+ℤ◌, ◌≤ℤ◌, int_le, nat_le, nat_lt, is_some, unwrap_or, fold, if◌then◌else◌}
 use Rattle.std.specs.List.{list_all}
 use Rattle.std.specs.Str.{bytes_eq}
 use Rattle.std.proofs.lemmas.Int.{ints}
@@ -16,17 +16,16 @@ use Rattle.ms_ground.specs.Reach as r
 use Rattle.ms_ground.specs.Fit.{Checked, checked, fit_rule, is_fit, is_numeric, numeric_layer, number, has_variable, fits}
 use Rattle.ms_ground.proofs.Layers.{fit_out}
 use Rattle.ms_ground.proofs.Bools.{and_left, and_right}
-use Rattle.ms_syntax.specs.declared.plain.Number.{Number}
-use Rattle.ms_syntax.specs.declared.plain.PlainDeclaration.{PlainDeclaration}
-use Rattle.ms_syntax.specs.declared.plain.Term.{Term}
-use Rattle.ms_syntax.specs.declared.plain.Term.TheVariants as term
-use Rattle.ms_syntax.specs.declared.plain.Total.{Total}
-use Rattle.ms_syntax.specs.declared.plain.Relation.{Relation}
-use Rattle.ms_syntax.specs.declared.plain.Relation.TheVariants as relation
-use Rattle.ms_syntax.specs.declared.plain.Comparison.{Comparison}
-use Rattle.ms_syntax.specs.declared.plain.PlainModel.{PlainModel}
-use Rattle.ms_syntax.specs.Plain.{place_of, is_small_number, is_small_term, is_small_total, is_small_comparison, is_small_declaration, is_small, differ}
-use Rattle.ms_top.specs.declared.domain.Domain.{Domain}
+use Rattle.ms_top.specs.declared.plain.Number.{Number}
+use Rattle.ms_top.specs.declared.plain.PlainDeclaration.{PlainDeclaration}
+use Rattle.ms_top.specs.declared.plain.Term.{Term}
+use Rattle.ms_top.specs.declared.plain.Term.TheVariants as term
+use Rattle.ms_top.specs.declared.plain.Total.{Total}
+use Rattle.ms_top.specs.declared.plain.Relation.{Relation}
+use Rattle.ms_top.specs.declared.plain.Relation.TheVariants as relation
+use Rattle.ms_top.specs.declared.plain.Comparison.{Comparison}
+use Rattle.ms_top.specs.declared.plain.PlainModel.{PlainModel}
+use Rattle.ms_top.specs.Plain.{place_of, is_small_number, is_small_term, is_small_total, is_small_comparison, is_small_declaration, is_small, differ}
 use Rattle.ms_top.specs.Solution.{minus, integer_of, term_tree, total_tree, compared, comparison_tree, constraint_trees, domain_of, domains, Within}
 use Rattle.ms_top.specs.Search.{FitBehind}
 

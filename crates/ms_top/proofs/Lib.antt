@@ -1,7 +1,9 @@
+pub mod Absent
 pub mod Enumerating
 pub mod Fitting
-pub mod Loops
+pub mod Gathering
 pub mod OneAnswer
 pub mod Refusing
 pub mod Reporting
 pub mod TextLemmas
+pub mod TokenPlaces

@@ -1,9 +1,8 @@
 -- Bytes have one answer: what is known of them excludes every other status.
-use Rattle.std.proofs.Common.{◌≡◌, ℕ, ◌<◌, ◌≤◌, List, [], ◌∷◌, length, take, map, get_or, Option, Some, None, refl, sym, ap, ◌∙◌, subst, arith, inl, inr}
-use Rattle.std.specs.Prelude.{ℤ, ◌⊎◌, ◌<ℤ◌, String, string_bytes}
+use Rattle.std.proofs.Common.{◌≡◌, ℕ, ◌≤◌, List, [], ◌∷◌, length, take, get_or, Option, Some, None, refl, sym, ap, ◌∙◌, subst, arith, inl, inr}
+use Rattle.std.specs.Prelude.{ℤ, ◌⊎◌, String, string_bytes}
 use Rattle.std.specs.declared.alloc.Global.{Global}
 use Rattle.std.proofs.lemmas.Int.{ints}
-use Rattle.ms_base.specs.declared.run.TheConstants.{FILE_LIMIT}
 use Rattle.ms_base.specs.declared.run.Closing.{Closing}
 use Rattle.ms_base.specs.declared.run.Closing.TheVariants as closing
 use Rattle.ms_base.specs.declared.run.Limit.{Limit}
@@ -11,35 +10,103 @@ use Rattle.ms_io.specs.Sink.{Gains}
 use Rattle.ms_syntax.specs.declared.token.LexKind.{LexKind}
 use Rattle.ms_syntax.specs.declared.token.Place.{Place}
 use Rattle.ms_syntax.specs.declared.token.Spanned.{Spanned}
-use Rattle.ms_syntax.specs.declared.plain.PlainModel.{PlainModel}
-use Rattle.ms_syntax.specs.Cut.{HasTokens, HasFault, place_behind}
-use Rattle.ms_syntax.specs.Plain.{IsPlain, IsPlainText, token_of}
+use Rattle.ms_top.specs.declared.plain.PlainModel.{PlainModel}
+use Rattle.ms_syntax.specs.Tree.{Items}
+use Rattle.ms_syntax.specs.Grammar.{WritesTree, IsShallow, SyntaxAt, DeepAt}
+use Rattle.ms_syntax.specs.OneAnswer.{OneAnswer}
+use Rattle.ms_syntax.specs.Cut.{HasTokens, place_behind}
+use Rattle.ms_top.specs.Plain.{HasTree, IsPlain, IsPlainText, plain_of}
 use Rattle.ms_syntax.proofs.Cuts.{one_list, one_fault, none_beside}
-use Rattle.ms_syntax.proofs.PlainLemmas.{one_model}
+use Rattle.ms_syntax.proofs.OneAnswer.{one_answer}
+use Rattle.ms_parser.proofs.Modeled.{one_model}
 use Rattle.ms_top.specs.declared.status.Status.{Status}
 use Rattle.ms_top.specs.declared.status.Status.TheVariants.{Done, Usage, ReadFault, Refused, WriteFault, NoMemory}
 use Rattle.ms_top.specs.declared.status.Fault.{Fault}
-use Rattle.ms_top.specs.declared.status.Fault.TheVariants.{LongFile, Lex, Form}
-use Rattle.ms_top.specs.Solution.{IsSolution, IsLeast, HasNoSolution, Precedes}
+use Rattle.ms_top.specs.declared.status.Fault.TheVariants.{LongFile, Lex, Syntax, Deep, Form}
+use Rattle.ms_top.specs.Solution.{IsSolution, IsLeast, Precedes}
 use Rattle.ms_top.specs.Text.{solution_text, unsatisfiable_text}
-use Rattle.ms_top.specs.Answer.{Answer, Answers, Exactly, HasFaultAt, HasLeast, HasNone, IsLong, IsNotPlain, IsShort, Remains, model_name}
+use Rattle.ms_top.specs.Answer.{Answer, Answers, Exactly, HasDeepAt, HasFaultAt, HasLeast, HasNone, HasSyntaxAt, IsLong, IsNotPlain, IsShort, IsTokenPlace, byte_of, Remains, model_name}
 
 -- ---- what excludes what
 
 long_short : (bytes : List ℕ) → IsLong bytes → IsShort bytes → ⊥
 long_short bytes l s = absurd (omega arith)
 
+-- ---- one reading of the bytes
+
+same_tokens : (bytes : List ℕ) (ts us : List Spanned) → HasTokens 0 bytes ts → HasTokens 0 bytes us → ts ≡ us
+same_tokens = one_list 0
+
+same_tree : (bytes : List ℕ) (ts us : List Spanned) (x y : Items) → HasTokens 0 bytes ts → HasTokens 0 bytes us → HasTree ts x → HasTree us y → x ≡ y
+same_tree bytes ts us x y a b g h =
+    one_model us x y (subst (WritesTree x) (same_tokens bytes ts us a b) g.0) h.0 h.1
+
+one_fault_of : OneAnswer WritesTree
+one_fault_of = one_answer WritesTree
+
 one_text : (bytes : List ℕ) (m n : PlainModel) → IsPlainText m bytes → IsPlainText n bytes → m ≡ n
-one_text bytes m n (ts, a, p) (us, b, q) = one_model m n (p.0 ∙ ap (map token_of) (one_list 0 bytes ts us a b) ∙ sym q.0)
+one_text bytes m n (ts, x, a, g, p) (us, y, b, h, q) =
+    let e : Some m ≡ Some n = sym p.0 ∙ ap plain_of (same_tree bytes ts us x y a b g h) ∙ q.0 in cc
 
 faulty_text : (bytes : List ℕ) (m : PlainModel) (place : Place) (kind : LexKind) → IsPlainText m bytes → HasFaultAt bytes place kind → ⊥
-faulty_text bytes m place kind (ts, a, p) (s, (k, f, e)) = none_beside 0 k bytes kind ts a f
+faulty_text bytes m place kind (ts, x, a, g, p) (s, (k, f, e)) = none_beside 0 k bytes kind ts a f
 
 plain_text : (bytes : List ℕ) (m : PlainModel) → IsPlainText m bytes → IsNotPlain bytes → ⊥
-plain_text bytes m (ts, a, p) (s, (us, b, none)) = none m (subst (IsPlain m) (one_list 0 bytes ts us a b) p)
+plain_text bytes m (ts, x, a, g, p) (s, (us, y, b, h, none)) = none m (subst (IsPlain m) (same_tree bytes ts us x y a b g h) p)
 
-faulty_tokens : (bytes : List ℕ) (place : Place) (kind : LexKind) → HasFaultAt bytes place kind → IsNotPlain bytes → ⊥
-faulty_tokens bytes place kind (s, (k, f, e)) (t, (us, b, none)) = none_beside 0 k bytes kind us b f
+-- ---- faults
+
+faulty_tokens : (bytes : List ℕ) (place : Place) (kind : LexKind) → HasFaultAt bytes place kind → (us : List Spanned) → HasTokens 0 bytes us → ⊥
+faulty_tokens bytes place kind (s, (k, f, e)) us b = none_beside 0 k bytes kind us b f
+
+-- bytes with a tree have no fault
+treed : (bytes : List ℕ) (ts : List Spanned) (x : Items) → HasTokens 0 bytes ts → HasTree ts x → (p : Place) → HasSyntaxAt bytes p → ⊥
+treed bytes ts x a g p (s, (us, k, b, f, e)) =
+    one_fault_of.not_syntax us x k (subst (WritesTree x) (same_tokens bytes ts us a b) g.0) f
+
+treed_deep : (bytes : List ℕ) (ts : List Spanned) (x : Items) → HasTokens 0 bytes ts → HasTree ts x → (p : Place) → HasDeepAt bytes p → ⊥
+treed_deep bytes ts x a g p (s, (us, k, b, f, e)) =
+    one_fault_of.not_deep us k (subst IsShallow (same_tokens bytes ts us a b) g.1) f
+
+two_faults : (bytes : List ℕ) (p q : Place) → HasSyntaxAt bytes p → HasDeepAt bytes q → ⊥
+two_faults bytes p q (s, (ts, j, a, f, e)) (t, (us, k, b, h, d)) =
+    one_fault_of.not_both us j k (subst (λ (v : List Spanned). SyntaxAt WritesTree v j) (same_tokens bytes ts us a b) f) h
+
+same_place : (bytes : List ℕ) (ts us : List Spanned) (j k : ℕ) (p q : Place) → ts ≡ us → j ≡ k → IsTokenPlace bytes ts j p → IsTokenPlace bytes us k q → p ≡ q
+same_place bytes ts us j k p q same at d e =
+    d ∙ ap (λ v. place_behind 0 (take (byte_of v j) bytes)) same ∙ ap (λ n. place_behind 0 (take (byte_of us n) bytes)) at ∙ sym e
+
+same_syntax : (bytes : List ℕ) (p q : Place) → HasSyntaxAt bytes p → HasSyntaxAt bytes q → p ≡ q
+same_syntax bytes p q (s, (ts, j, a, f, d)) (t, (us, k, b, h, e)) =
+    let same = same_tokens bytes ts us a b in
+    same_place bytes ts us j k p q same (one_fault_of.one_syntax us j k (subst (λ (v : List Spanned). SyntaxAt WritesTree v j) same f) h) d e
+
+same_deep : (bytes : List ℕ) (p q : Place) → HasDeepAt bytes p → HasDeepAt bytes q → p ≡ q
+same_deep bytes p q (s, (ts, j, a, f, d)) (t, (us, k, b, h, e)) =
+    let same = same_tokens bytes ts us a b in
+    same_place bytes ts us j k p q same (one_fault_of.one_deep us j k (subst (λ (v : List Spanned). DeepAt WritesTree v j) same f) h) d e
+
+-- what is said of bytes by each fault of their text excludes the others
+tokens_of_syntax : (bytes : List ℕ) (p : Place) → HasSyntaxAt bytes p → (place : Place) (kind : LexKind) → HasFaultAt bytes place kind → ⊥
+tokens_of_syntax bytes p (s, (ts, k, a, f, e)) place kind h = faulty_tokens bytes place kind h ts a
+
+tokens_of_deep : (bytes : List ℕ) (p : Place) → HasDeepAt bytes p → (place : Place) (kind : LexKind) → HasFaultAt bytes place kind → ⊥
+tokens_of_deep bytes p (s, (ts, k, a, f, e)) place kind h = faulty_tokens bytes place kind h ts a
+
+tokens_of_form : (bytes : List ℕ) → IsNotPlain bytes → (place : Place) (kind : LexKind) → HasFaultAt bytes place kind → ⊥
+tokens_of_form bytes (s, (us, y, b, h, none)) place kind f = faulty_tokens bytes place kind f us b
+
+form_syntax : (bytes : List ℕ) → IsNotPlain bytes → (p : Place) → HasSyntaxAt bytes p → ⊥
+form_syntax bytes (s, (us, y, b, h, none)) p f = treed bytes us y b h p f
+
+form_deep : (bytes : List ℕ) → IsNotPlain bytes → (p : Place) → HasDeepAt bytes p → ⊥
+form_deep bytes (s, (us, y, b, h, none)) p f = treed_deep bytes us y b h p f
+
+plain_syntax : (bytes : List ℕ) (m : PlainModel) → IsPlainText m bytes → (p : Place) → HasSyntaxAt bytes p → ⊥
+plain_syntax bytes m (ts, x, a, g, q) p f = treed bytes ts x a g p f
+
+plain_deep : (bytes : List ℕ) (m : PlainModel) → IsPlainText m bytes → (p : Place) → HasDeepAt bytes p → ⊥
+plain_deep bytes m (ts, x, a, g, q) p f = treed_deep bytes ts x a g p f
 
 not_both : (a b : List ℤ) → Precedes a b → Precedes b a → ⊥
 not_both [] b p q = absurd p
@@ -137,6 +204,8 @@ module _ (bytes : List ℕ) (old new : Option (List ℕ)) where
   accepted : (m : PlainModel) → IsShort bytes → IsPlainText m bytes → (f : Fault) → Answer bytes (Refused f) [] → ⊥
   accepted m s t (LongFile file) h = long_short bytes h.1 s
   accepted m s t (Lex place kind) h = faulty_text bytes m place kind t h.0
+  accepted m s t (Syntax place) h = plain_syntax bytes m t place h.0
+  accepted m s t (Deep place) h = plain_deep bytes m t place h.0
   accepted m s t (Form file) h = plain_text bytes m t h.1
 
   pub plain_answer : (r : Status) → Answers bytes r old new → (m : PlainModel) (a : List ℤ) → HasLeast bytes m a → (r ≡ ReadFault → ⊥) → (r ≡ WriteFault → ⊥)
@@ -170,7 +239,39 @@ module _ (bytes : List ℕ) (old new : Option (List ℕ)) where
       always WriteFault h read f = let d = done_for bytes h.0 h.1 h.2 h.4 in absurd (faulty_text bytes d.model place kind d.text f)
       always (Refused (LongFile file)) h read f = absurd (long_short bytes h.0.1 f.0)
       always (Refused (Lex p k)) h read f = inl (same_fault p place k kind h.0.0 f)
-      always (Refused (Form file)) h read f = absurd (faulty_tokens bytes place kind f h.0.1)
+      always (Refused (Syntax p)) h read f = absurd (tokens_of_syntax bytes p h.0.0 place kind f)
+      always (Refused (Deep p)) h read f = absurd (tokens_of_deep bytes p h.0.0 place kind f)
+      always (Refused (Form file)) h read f = absurd (tokens_of_form bytes h.0.1 place kind f)
+      always ReadFault h read f = absurd (read refl)
+      always NoMemory h read f = inr refl
+      always Usage h read f = absurd h
+
+  pub syntax_answer : (r : Status) → Answers bytes r old new → (place : Place) → (r ≡ ReadFault → ⊥) → Exactly (Refused (Syntax place)) r (HasSyntaxAt bytes place)
+  syntax_answer r h place read = record { only = λ e. (subst (λ (t : Status). Answers bytes t old new) e h).0.0; always = always r h read }
+    where
+      always : (r : Status) → Answers bytes r old new → (r ≡ ReadFault → ⊥) → HasSyntaxAt bytes place → (r ≡ Refused (Syntax place)) ⊎ (r ≡ NoMemory)
+      always (Done c limit) h read f = let d = done_for bytes c limit h.0 h.1 in absurd (plain_syntax bytes d.model d.text place f)
+      always WriteFault h read f = let d = done_for bytes h.0 h.1 h.2 h.4 in absurd (plain_syntax bytes d.model d.text place f)
+      always (Refused (LongFile file)) h read f = absurd (long_short bytes h.0.1 f.0)
+      always (Refused (Lex p k)) h read f = absurd (tokens_of_syntax bytes place f p k h.0.0)
+      always (Refused (Syntax p)) h read f = inl (ap (λ q. Refused (Syntax q)) (same_syntax bytes p place h.0.0 f))
+      always (Refused (Deep p)) h read f = absurd (two_faults bytes place p f h.0.0)
+      always (Refused (Form file)) h read f = absurd (form_syntax bytes h.0.1 place f)
+      always ReadFault h read f = absurd (read refl)
+      always NoMemory h read f = inr refl
+      always Usage h read f = absurd h
+
+  pub deep_answer : (r : Status) → Answers bytes r old new → (place : Place) → (r ≡ ReadFault → ⊥) → Exactly (Refused (Deep place)) r (HasDeepAt bytes place)
+  deep_answer r h place read = record { only = λ e. (subst (λ (t : Status). Answers bytes t old new) e h).0.0; always = always r h read }
+    where
+      always : (r : Status) → Answers bytes r old new → (r ≡ ReadFault → ⊥) → HasDeepAt bytes place → (r ≡ Refused (Deep place)) ⊎ (r ≡ NoMemory)
+      always (Done c limit) h read f = let d = done_for bytes c limit h.0 h.1 in absurd (plain_deep bytes d.model d.text place f)
+      always WriteFault h read f = let d = done_for bytes h.0 h.1 h.2 h.4 in absurd (plain_deep bytes d.model d.text place f)
+      always (Refused (LongFile file)) h read f = absurd (long_short bytes h.0.1 f.0)
+      always (Refused (Lex p k)) h read f = absurd (tokens_of_deep bytes place f p k h.0.0)
+      always (Refused (Syntax p)) h read f = absurd (two_faults bytes p place h.0.0 f)
+      always (Refused (Deep p)) h read f = inl (ap (λ q. Refused (Deep q)) (same_deep bytes p place h.0.0 f))
+      always (Refused (Form file)) h read f = absurd (form_deep bytes h.0.1 place f)
       always ReadFault h read f = absurd (read refl)
       always NoMemory h read f = inr refl
       always Usage h read f = absurd h
@@ -182,7 +283,9 @@ module _ (bytes : List ℕ) (old new : Option (List ℕ)) where
       always (Done c limit) h read f = let d = done_for bytes c limit h.0 h.1 in absurd (plain_text bytes d.model d.text f)
       always WriteFault h read f = let d = done_for bytes h.0 h.1 h.2 h.4 in absurd (plain_text bytes d.model d.text f)
       always (Refused (LongFile file)) h read f = absurd (long_short bytes h.0.1 f.0)
-      always (Refused (Lex p k)) h read f = absurd (faulty_tokens bytes p k h.0.0 f)
+      always (Refused (Lex p k)) h read f = absurd (tokens_of_form bytes f p k h.0.0)
+      always (Refused (Syntax p)) h read f = absurd (form_syntax bytes f p h.0.0)
+      always (Refused (Deep p)) h read f = absurd (form_deep bytes f p h.0.0)
       always (Refused (Form file)) h read f = inl (ap (λ n. Refused (Form n)) h.0.0)
       always ReadFault h read f = absurd (read refl)
       always NoMemory h read f = inr refl

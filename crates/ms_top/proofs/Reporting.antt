@@ -1,6 +1,6 @@
 -- What is put of a text, from what a put answers.
-use Rattle.std.proofs.Common.{◌≡◌, ℕ, ◌≤◌, List, length, take, Option, Result, Ok, Err, OnOk, OnErr, refl, sym, ap, ◌∙◌, subst, arith}
-use Rattle.std.specs.Prelude.{MatchResult, None, Some, option_map, ◌++◌, []}
+use Rattle.std.proofs.Common.{◌≡◌, ℕ, ◌≤◌, List, length, take, Option, Result, Ok, Err, OnOk, OnErr, refl, sym, ap, subst, arith}
+use Rattle.std.specs.Prelude.{MatchResult, None, Some, []}
 use Rattle.std.proofs.lemmas.List.{take_all, append-nil}
 use Rattle.ms_io.specs.Files.{raised}
 use Rattle.ms_io.specs.Sink.{Gains}

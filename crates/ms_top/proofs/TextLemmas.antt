@@ -1,8 +1,8 @@
 -- The lines of the variables, one more at a time.
-use Rattle.std.proofs.Common.{◌≡◌, ℕ, zero, suc, ◌+◌, ◌<◌, ◌≤◌, List, [], ◌∷◌, ◌++◌, length, take, get_or, refl, sym, ap, ◌∙◌, append_assoc, arith, add-one}
+use Rattle.std.proofs.Common.{◌≡◌, ℕ, zero, suc, ◌<◌, List, [], ◌∷◌, ◌++◌, length, take, get_or, sym, ap, ◌∙◌, append_assoc, arith}
 use Rattle.std.specs.Prelude.{ℤ}
 use Rattle.std.proofs.lemmas.List.{append-nil}
-use Rattle.ms_syntax.specs.declared.plain.PlainDeclaration.{PlainDeclaration}
+use Rattle.ms_top.specs.declared.plain.PlainDeclaration.{PlainDeclaration}
 use Rattle.ms_top.specs.Text.{variable_line, variable_lines}
 
 pub lines_more : (ds : List PlainDeclaration) (a : List ℤ) (i : ℕ) (d : PlainDeclaration) (z e : ℤ) → i < length ds → length ds ≡ length a → d ≡ get_or ds i d → z ≡ get_or a i e

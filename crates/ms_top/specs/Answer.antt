@@ -1,5 +1,5 @@
 -- What the program answers for the bytes of a model.
-use Rattle.std.specs.Prelude.{◌≡◌, ℕ, ℤ, ◌+◌, ◌-◌, ◌^◌, ◌<◌, ◌≤◌, min, List, [], ◌∷◌, ◌++◌, length, take, ◌⊎◌, ◌↔◌, Option, Some, None, string_bytes}
+use Rattle.std.specs.Prelude.{◌≡◌, ℕ, ℤ, ◌+◌, ◌-◌, ◌^◌, ◌<◌, ◌≤◌, min, List, [], ◌∷◌, ◌++◌, length, take, slice_get, ◌⊎◌, Option, Some, None, string_bytes}
 use Rattle.std.specs.Prelude.{String}
 use Rattle.std.specs.declared.alloc.Global.{Global}
 use Rattle.ms_base.specs.declared.run.TheConstants.{FILE_LIMIT}
@@ -12,13 +12,14 @@ use Rattle.ms_io.specs.Sink.{Gains}
 use Rattle.ms_syntax.specs.declared.token.LexKind.{LexKind}
 use Rattle.ms_syntax.specs.declared.token.Place.{Place}
 use Rattle.ms_syntax.specs.declared.token.Spanned.{Spanned}
-use Rattle.ms_syntax.specs.declared.plain.PlainModel.{PlainModel}
+use Rattle.ms_top.specs.declared.plain.PlainModel.{PlainModel}
+use Rattle.ms_syntax.specs.Tree.{Items}
+use Rattle.ms_syntax.specs.Grammar.{WritesTree, SyntaxAt, DeepAt}
 use Rattle.ms_syntax.specs.Cut.{HasTokens, HasFault, place_behind}
-use Rattle.ms_syntax.specs.Plain.{IsPlain, IsPlainText}
+use Rattle.ms_top.specs.Plain.{HasTree, IsPlain, IsPlainText}
 use Rattle.ms_top.specs.declared.status.Status.{Status}
 use Rattle.ms_top.specs.declared.status.Status.TheVariants.{Done, Usage, ReadFault, Refused, WriteFault, NoMemory}
-use Rattle.ms_top.specs.declared.status.Fault.{Fault}
-use Rattle.ms_top.specs.declared.status.Fault.TheVariants.{LongFile, Lex, Form}
+use Rattle.ms_top.specs.declared.status.Fault.TheVariants.{LongFile, Lex, Syntax, Deep, Form}
 use Rattle.ms_top.specs.Solution.{IsLeast, HasNoSolution}
 use Rattle.ms_top.specs.Text.{solution_text, unsatisfiable_text}
 
@@ -40,9 +41,30 @@ IsLong bytes = FILE_LIMIT < length bytes
 abbrev pub HasFaultAt : List ℕ → Place → LexKind → Type 0
 HasFaultAt bytes place kind = IsShort bytes × ((k : ℕ) × HasFault bytes kind k × (place ≡ place_behind 0 (take k bytes)))
 
--- they have tokens, which write no small model of the plain form
+-- where the k-th token begins, or the last one ends where there is no k-th
+abbrev pub begin_or_end : Option Spanned → Option Spanned → ℕ
+begin_or_end (Some y) last = y.start
+begin_or_end None (Some z) = z.end
+begin_or_end None None = 0
+
+abbrev pub byte_of : List Spanned → ℕ → ℕ
+byte_of ts k = begin_or_end (slice_get ts k) (slice_get ts (length ts - 1))
+
+-- the place of the k-th token, or the one behind the last token where there is no k-th
+abbrev pub IsTokenPlace : List ℕ → List Spanned → ℕ → Place → Type 0
+IsTokenPlace bytes ts k place = place ≡ place_behind 0 (take (byte_of ts k) bytes)
+
+-- they have tokens, of which the one at this place is the first with which no model goes on
+abbrev pub HasSyntaxAt : List ℕ → Place → Type 0
+HasSyntaxAt bytes place = IsShort bytes × ((ts : List Spanned) × (k : ℕ) × HasTokens 0 bytes ts × SyntaxAt WritesTree ts k × IsTokenPlace bytes ts k place)
+
+-- they have tokens, of which the one at this place can stand there, and is the first that nests too deep
+abbrev pub HasDeepAt : List ℕ → Place → Type 0
+HasDeepAt bytes place = IsShort bytes × ((ts : List Spanned) × (k : ℕ) × HasTokens 0 bytes ts × DeepAt WritesTree ts k × IsTokenPlace bytes ts k place)
+
+-- they have a tree, which is no small model of the plain form
 abbrev pub IsNotPlain : List ℕ → Type 0
-IsNotPlain bytes = IsShort bytes × ((ts : List Spanned) × HasTokens 0 bytes ts × ((m : PlainModel) → IsPlain m ts → ⊥))
+IsNotPlain bytes = IsShort bytes × ((ts : List Spanned) × (tree : Items) × HasTokens 0 bytes ts × HasTree ts tree × ((m : PlainModel) → IsPlain m tree → ⊥))
 
 -- they are a text of a small model of the plain form, of which this is the least solution
 pub record HasLeast (bytes : List ℕ) (m : PlainModel) (a : List ℤ) : Type 0 where
@@ -61,6 +83,8 @@ pub record HasNone (bytes : List ℕ) (m : PlainModel) : Type 0 where
 abbrev pub Answer : List ℕ → Status → List ℕ → Type 0
 Answer bytes (Refused (LongFile file)) text = (file ≡ 0) × IsLong bytes × (text ≡ [])
 Answer bytes (Refused (Lex place kind)) text = HasFaultAt bytes place kind × (text ≡ [])
+Answer bytes (Refused (Syntax place)) text = HasSyntaxAt bytes place × (text ≡ [])
+Answer bytes (Refused (Deep place)) text = HasDeepAt bytes place × (text ≡ [])
 Answer bytes (Refused (Form file)) text = (file ≡ 0) × IsNotPlain bytes × (text ≡ [])
 Answer bytes (Done Plain None) text = (m : PlainModel) × (a : List ℤ) × HasLeast bytes m a × (text ≡ solution_text m a)
 Answer bytes (Done Unsatisfiable None) text = (m : PlainModel) × HasNone bytes m × (text ≡ unsatisfiable_text)

@@ -1,5 +1,6 @@
 pub mod Answer
 pub mod Exit
+pub mod Plain
 pub mod Reads
 pub mod Refusal
 pub mod Search

@@ -1,5 +1,5 @@
 -- The solutions that begin with given numbers.
-use Rattle.std.specs.Prelude.{◌≡◌, List, ◌++◌, ◌⊎◌, IsTrue, Bool, true, ℤ}
+use Rattle.std.specs.Prelude.{◌≡◌, List, ◌++◌, ◌⊎◌, true, ℤ}
 use Rattle.std.specs.List.{list_all}
 use Rattle.ms_ground.specs.declared.tree.Ground.{Ground}
 use Rattle.ms_ground.specs.Reach.{points}

@@ -1,21 +1,19 @@
 -- What a model of the plain form means: its ground trees, its solutions, and the least of them.
-use Rattle.std.specs.Prelude.{◌≡◌, ℕ, zero, suc, List, [], ◌∷◌, ◌++◌, map, fold, unwrap_or, ◌⊎◌, Bool, true, false, if◌then◌else◌, IsTrue, ℤ, pos, negsuc, ◌≤ℤ◌, ◌<ℤ◌}
+use Rattle.std.specs.Prelude.{◌≡◌, ℕ, zero, suc, List, [], ◌∷◌, map, fold, unwrap_or, ◌⊎◌, Bool, if◌then◌else◌, IsTrue, ℤ, pos, negsuc, ◌≤ℤ◌, ◌<ℤ◌}
 use Rattle.std.specs.List.{list_all}
 use Rattle.ms_ground.specs.declared.tree.Ground.{Ground}
 use Rattle.ms_ground.specs.declared.tree.Ground.TheVariants as g
 use Rattle.ms_ground.specs.Value.{value}
-use Rattle.ms_ground.specs.Reach.{points}
-use Rattle.ms_ground.specs.Fit.{is_fit}
-use Rattle.ms_syntax.specs.declared.plain.Number.{Number}
-use Rattle.ms_syntax.specs.declared.plain.PlainDeclaration.{PlainDeclaration}
-use Rattle.ms_syntax.specs.declared.plain.Term.{Term}
-use Rattle.ms_syntax.specs.declared.plain.Term.TheVariants as term
-use Rattle.ms_syntax.specs.declared.plain.Total.{Total}
-use Rattle.ms_syntax.specs.declared.plain.Relation.{Relation}
-use Rattle.ms_syntax.specs.declared.plain.Relation.TheVariants as relation
-use Rattle.ms_syntax.specs.declared.plain.Comparison.{Comparison}
-use Rattle.ms_syntax.specs.declared.plain.PlainModel.{PlainModel}
-use Rattle.ms_syntax.specs.Plain.{place_of}
+use Rattle.ms_top.specs.declared.plain.Number.{Number}
+use Rattle.ms_top.specs.declared.plain.PlainDeclaration.{PlainDeclaration}
+use Rattle.ms_top.specs.declared.plain.Term.{Term}
+use Rattle.ms_top.specs.declared.plain.Term.TheVariants as term
+use Rattle.ms_top.specs.declared.plain.Total.{Total}
+use Rattle.ms_top.specs.declared.plain.Relation.{Relation}
+use Rattle.ms_top.specs.declared.plain.Relation.TheVariants as relation
+use Rattle.ms_top.specs.declared.plain.Comparison.{Comparison}
+use Rattle.ms_top.specs.declared.plain.PlainModel.{PlainModel}
+use Rattle.ms_top.specs.Plain.{place_of}
 use Rattle.ms_top.specs.declared.domain.Domain.{Domain}
 
 -- ---- ground trees

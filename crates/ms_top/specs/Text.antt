@@ -1,12 +1,12 @@
 -- What the program writes.
 use Rattle.std.specs.Prelude.{ℕ, List, [], ◌∷◌, ◌++◌, ℤ, codes}
 use Rattle.std.specs.Fmt.{decimal, signed_decimal}
-use Rattle.ms_syntax.specs.declared.plain.PlainDeclaration.{PlainDeclaration}
-use Rattle.ms_syntax.specs.declared.plain.PlainModel.{PlainModel}
+use Rattle.ms_top.specs.declared.plain.PlainDeclaration.{PlainDeclaration}
+use Rattle.ms_top.specs.declared.plain.PlainModel.{PlainModel}
 use Rattle.ms_top.specs.declared.status.Status.{Status}
 use Rattle.ms_top.specs.declared.status.Status.TheVariants.{Done, Usage, ReadFault, Refused, WriteFault, NoMemory}
 use Rattle.ms_top.specs.declared.status.Fault.{Fault}
-use Rattle.ms_top.specs.declared.status.Fault.TheVariants.{LongFile, Lex, Form}
+use Rattle.ms_top.specs.declared.status.Fault.TheVariants.{LongFile, Lex, Syntax, Deep, Form}
 use Rattle.ms_syntax.specs.declared.token.Place.{Place}
 use Rattle.ms_syntax.specs.declared.token.LexKind.{LexKind}
 use Rattle.ms_syntax.specs.declared.token.LexKind.TheVariants.{BadByte, OpenText, OpenComment, BigNumber}
@@ -48,6 +48,8 @@ place_text file place = file ++ codes ":" ++ decimal place.line ++ codes ":" ++ 
 abbrev pub fault_text : List ℕ → Fault → List ℕ
 fault_text file (LongFile f) = file ++ codes ": longer than 1048576 bytes\n"
 fault_text file (Lex place kind) = place_text file place ++ codes ": " ++ fault_words kind ++ codes "\n"
+fault_text file (Syntax place) = place_text file place ++ codes ": syntax error\n"
+fault_text file (Deep place) = place_text file place ++ codes ": nested too deeply\n"
 fault_text file (Form f) = file ++ codes ": not built yet\n"
 
 -- what is said of a status, where the model's file has this name

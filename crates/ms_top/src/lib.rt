@@ -11,12 +11,12 @@
 #![tactic(auto)]
 
 mod answer;
-mod cursor;
 mod domain;
 mod enumerate;
+mod form;
 mod limits;
+mod plain;
 mod program;
-mod reader;
 mod report;
 mod solve;
 mod status;

@@ -3,9 +3,9 @@
 ghost use Rattle.std.specs.Prelude.{◌≡◌, length, nat_lt, nat_le};
 ghost use Rattle.std.specs.List.{list_all, list_any};
 ghost use Rattle.std.specs.Str.{bytes_eq};
-ghost use Rattle.ms_syntax.specs.Plain as spec;
+ghost use Rattle.ms_top.specs.Plain as spec;
 
-use ms_syntax::{Comparison, Number, PlainDeclaration, PlainModel, Term, Total};
+use crate::plain::{Comparison, Number, PlainDeclaration, PlainModel, Term, Total};
 
 /// The greatest magnitude of a number.
 const MAX_MAGNITUDE: u64 = 1000000;

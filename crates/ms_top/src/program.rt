@@ -3,10 +3,10 @@
 ghost use Rattle.std.specs.Prelude.{◌≡◌, ◌≢◌, ◌<◌, ◌↔◌, ◌⊎◌, ◌++◌, ◌∷◌, [], ℕ, ℤ, List, Option, length, take, IfOk, OnErr, string_bytes, vec_len};
 ghost use Rattle.ms_io.specs.Files.{HasFile};
 ghost use Rattle.ms_io.specs.Sink.{Gains};
-ghost use Rattle.ms_syntax.specs.declared.plain.PlainModel.{PlainModel};
+ghost use Rattle.ms_top.specs.declared.plain.PlainModel.{PlainModel};
 ghost use Rattle.ms_syntax.specs.declared.token.Place.{Place};
 ghost use Rattle.ms_syntax.specs.declared.token.LexKind.{LexKind};
-ghost use Rattle.ms_top.specs.Answer.{Answers, AsksFor, AsksForModel, Exactly, HasFaultAt, HasLeast, HasNone, IsGiven, IsLong, IsMissing, IsNotPlain, IsRead, IsShort, Remains, Reports, Rose, Unless, Writes, WritesNothing, model_name};
+ghost use Rattle.ms_top.specs.Answer.{Answers, AsksFor, AsksForModel, Exactly, HasDeepAt, HasFaultAt, HasLeast, HasNone, HasSyntaxAt, IsGiven, IsLong, IsMissing, IsNotPlain, IsRead, IsShort, Remains, Reports, Rose, Unless, Writes, WritesNothing, model_name};
 ghost use Rattle.ms_top.specs.Text.{report_text, solution_text, unsatisfiable_text};
 
 use crate::answer::{MODEL, Refusal, Solved, answer};
@@ -153,6 +153,10 @@ pub fn run<F: Files, O: Sink, E: Sink>(
         Exactly (Status.Refused (Fault.LongFile 0)) result (IsLong bytes) }
     ensures lex { (bytes : List ℕ) (place : Place) (kind : LexKind) → IsRead (F.told files.old) (F.faults files.old) (F.faults files.new) words.now bytes →
         Exactly (Status.Refused (Fault.Lex place kind)) result (HasFaultAt bytes place kind) }
+    ensures syntax { (bytes : List ℕ) (place : Place) → IsRead (F.told files.old) (F.faults files.old) (F.faults files.new) words.now bytes →
+        Exactly (Status.Refused (Fault.Syntax place)) result (HasSyntaxAt bytes place) }
+    ensures deep { (bytes : List ℕ) (place : Place) → IsRead (F.told files.old) (F.faults files.old) (F.faults files.new) words.now bytes →
+        Exactly (Status.Refused (Fault.Deep place)) result (HasDeepAt bytes place) }
     ensures form { (bytes : List ℕ) → IsRead (F.told files.old) (F.faults files.old) (F.faults files.new) words.now bytes →
         Exactly (Status.Refused (Fault.Form 0)) result (IsNotPlain bytes) }
     ensures write_fault { result ≡ Status.WriteFault → Rose (O.faults out.old) (O.faults out.new) }

@@ -44,6 +44,14 @@ pub fn fault_text(alloc: Global, file: &[u8], fault: Fault) -> Result<Vec<u8>, A
             text.extend_from_slice(fault_words(kind))?;
             text.extend_from_slice(b"\n")?;
         }
+        Fault::Syntax(place) => {
+            push_place(&mut text, place)?;
+            text.extend_from_slice(b": syntax error\n")?;
+        }
+        Fault::Deep(place) => {
+            push_place(&mut text, place)?;
+            text.extend_from_slice(b": nested too deeply\n")?;
+        }
         Fault::Form(_) => text.extend_from_slice(b": not built yet\n")?,
     }
     Ok(text)

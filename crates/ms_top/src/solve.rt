@@ -1,13 +1,13 @@
 //! The least solution of a model of the plain form.
 
 ghost use Rattle.std.specs.Prelude.{◌≡◌, IsTrue, IfOk, MatchOption};
-ghost use Rattle.ms_syntax.specs.Plain.{is_small};
+ghost use Rattle.ms_top.specs.Plain.{is_small};
 ghost use Rattle.ms_top.specs.Solution.{IsLeast, HasNoSolution};
 
 use crate::enumerate::set_least;
+use crate::plain::PlainModel;
 use crate::trees::{constraint_trees, domains};
 use ms_base::Point;
-use ms_syntax::PlainModel;
 use std::alloc::{AllocError, Global};
 
 /// The least solution, if there is one.

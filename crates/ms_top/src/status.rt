@@ -11,6 +11,10 @@ pub enum Fault {
     LongFile(FileNo),
     /// The first thing in the bytes that no token can take.
     Lex(Place, LexKind),
+    /// The first token with which no model goes on, or the end behind the last token.
+    Syntax(Place),
+    /// The first token at which brackets and `if` nest more than 200 deep.
+    Deep(Place),
     /// The model is not of the plain form, which is all that is built yet.
     Form(FileNo),
 }

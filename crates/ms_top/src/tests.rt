@@ -18,6 +18,10 @@ fn lex(line: u32, col: u32, kind: LexKind) -> Status {
     Status::Refused(Fault::Lex(Place { file: 0, line, col }, kind))
 }
 
+fn syntax(line: u32, col: u32) -> Status {
+    Status::Refused(Fault::Syntax(Place { file: 0, line, col }))
+}
+
 fn words(alloc: Global, list: &[&str]) -> Result<Vec<String>, AllocError> {
     let mut words = Vec::new(alloc);
     for word in list {
@@ -107,7 +111,12 @@ fn models_are_answered(rt: HostRuntime) -> Result<(), Fail> {
         (b"var -1000001..0: x; solve satisfy;", FORM, nothing, form),
         (b"", FORM, nothing, form),
         (b" \t\r\n", FORM, nothing, form),
-        (b"var 1..3 x;", FORM, nothing, form),
+        (
+            b"var 1..3 x;",
+            syntax(1, 10),
+            nothing,
+            b"m.mzn:1:10: syntax error\n",
+        ),
         (
             b"var 1..2: x; var 1..2: x; solve satisfy;",
             FORM,
@@ -121,9 +130,50 @@ fn models_are_answered(rt: HostRuntime) -> Result<(), Fail> {
             nothing,
             form,
         ),
-        (b"varx 1..3: x; solve satisfy;", FORM, nothing, form),
-        (b"var 1..: x; solve satisfy;", FORM, nothing, form),
-        (b"solve satisfy;;", FORM, nothing, form),
+        (b"solve minimize 3;", FORM, nothing, form),
+        (
+            b"var 1..3: x; constraint x = (1); solve satisfy;",
+            FORM,
+            nothing,
+            form,
+        ),
+        (
+            b"constraint 1 = 1; var 1..3: x; solve satisfy;",
+            FORM,
+            nothing,
+            form,
+        ),
+        (b"solve satisfy; constraint 1 = 1", FORM, nothing, form),
+        (
+            b"varx 1..3: x; solve satisfy;",
+            syntax(1, 6),
+            nothing,
+            b"m.mzn:1:6: syntax error\n",
+        ),
+        (
+            b"var 1..: x; solve satisfy;",
+            syntax(1, 8),
+            nothing,
+            b"m.mzn:1:8: syntax error\n",
+        ),
+        (
+            b"solve satisfy;;",
+            syntax(1, 15),
+            nothing,
+            b"m.mzn:1:15: syntax error\n",
+        ),
+        (
+            b"constraint 1 < 2 < 3; solve satisfy;",
+            syntax(1, 18),
+            nothing,
+            b"m.mzn:1:18: syntax error\n",
+        ),
+        (
+            b"\n solve % not yet\n",
+            syntax(2, 7),
+            nothing,
+            b"m.mzn:2:7: syntax error\n",
+        ),
         (
             b"solve satisfy;\n\xff",
             lex(2, 1, LexKind::BadByte),
@@ -190,7 +240,14 @@ fn limits_are_kept(rt: HostRuntime) -> Result<(), Fail> {
     let longer = repeated(alloc, b" ", 1048563, b"solve satisfy;")?;
     answers(&rt, alloc, &longer, long, b"", long_text)?;
     let other = repeated(alloc, b";", 1048576, b"")?;
-    answers(&rt, alloc, &other, FORM, b"", form)?;
+    answers(
+        &rt,
+        alloc,
+        &other,
+        syntax(1, 1),
+        b"",
+        b"m.mzn:1:1: syntax error\n",
+    )?;
 
     // Eight declarations, and nine.
     let zeros = b"a = 0;\nb = 0;\nc = 0;\nd = 0;\ne = 0;\nf = 0;\ng = 0;\nh = 0;\n----------\n";
@@ -214,6 +271,29 @@ fn limits_are_kept(rt: HostRuntime) -> Result<(), Fail> {
     more.extend_from_slice(&terms)?;
     answers(&rt, alloc, &more, FORM, b"", form)?;
 
+    // Two hundred brackets, one in another, and one more.
+    let opened = repeated(alloc, b"(", 200, b"")?;
+    let closed = repeated(alloc, b")", 200, b"; solve satisfy;")?;
+    let mut nested = Vec::from_slice(alloc, b"constraint ")?;
+    nested.extend_from_slice(&opened)?;
+    nested.extend_from_slice(b"1")?;
+    nested.extend_from_slice(&closed)?;
+    answers(&rt, alloc, &nested, FORM, b"", form)?;
+    let mut deep = Vec::from_slice(alloc, b"constraint (")?;
+    deep.extend_from_slice(&opened)?;
+    answers(
+        &rt,
+        alloc,
+        &deep,
+        Status::Refused(Fault::Deep(Place {
+            file: 0,
+            line: 1,
+            col: 212,
+        })),
+        b"",
+        b"m.mzn:1:212: nested too deeply\n",
+    )?;
+
     // The greatest number, and one more.
     answers(
         &rt,
@@ -231,6 +311,30 @@ fn limits_are_kept(rt: HostRuntime) -> Result<(), Fail> {
         b"",
         form,
     )?;
+    Ok(())
+}
+
+/// Each beginning of a model's text is refused, up to that from which only the last mark is missing.
+#[test]
+fn cut_texts_are_answered(rt: HostRuntime) -> Result<(), Fail> {
+    let alloc = rt.alloc();
+    let text =
+        b"var 1..3: x; var 1..3: y; constraint x + y = 4; constraint x < y; solve satisfy;".as_slice();
+    for (len, _) in text.iter().enumerate() {
+        let mut files = MemFiles::new(alloc);
+        let (front, behind) = text.split_at(len);
+        files.hold("m.mzn", front)?;
+        let mut written = MemSink::new(alloc);
+        let mut said = MemSink::new(alloc);
+        let words = words(alloc, &["minisearch", "m.mzn"])?;
+        let answer = run(alloc, &words, &mut files, &mut written, &mut said);
+        if behind == b";".as_slice() {
+            assert_eq!(rt; answer, PLAIN);
+        } else {
+            assert_eq!(rt; answer.code(), 1);
+            assert_eq!(rt; written.bytes(), b"".as_slice());
+        }
+    }
     Ok(())
 }
 

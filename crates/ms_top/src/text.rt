@@ -3,8 +3,8 @@
 ghost use Rattle.std.specs.Prelude.{◌≡◌, ◌++◌, length, OnOk, IfOk};
 ghost use Rattle.ms_top.specs.Text as spec;
 
+use crate::plain::{PlainDeclaration, PlainModel};
 use itoa::Buffer;
-use ms_syntax::{PlainDeclaration, PlainModel};
 use std::alloc::{AllocError, Global};
 
 /// The line behind the text of a solution.

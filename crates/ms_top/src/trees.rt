@@ -2,13 +2,13 @@
 
 ghost use Rattle.std.specs.Prelude.{◌≡◌, ◌≤◌, IsTrue, IfOk, is_some, length, map, unwrap_or};
 ghost use Rattle.std.specs.List.{list_all};
-ghost use Rattle.ms_syntax.specs.Plain as plain;
+ghost use Rattle.ms_top.specs.Plain as plain;
 ghost use Rattle.ms_top.specs.Solution as spec;
 
 use crate::domain::Domain;
 use crate::limits::place_of;
+use crate::plain::{Comparison, Number, PlainDeclaration, PlainModel, Relation, Term, Total};
 use ms_ground::Ground;
-use ms_syntax::{Comparison, Number, PlainDeclaration, PlainModel, Relation, Term, Total};
 use sqlite_items::Boxed;
 use std::alloc::{AllocError, Global};
 

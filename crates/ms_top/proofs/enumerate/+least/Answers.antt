@@ -1,9 +1,8 @@
-use Rattle.std.proofs.Common.{rules, ◌≡◌, ◌∙◌, ap, sym, subst, ◌+◌, ◌∷◌, ◌++◌, [], List, take, length, arith, true, length-set, to_z, w64}
-use Rattle.std.specs.Prelude.{ℤ, pos, ◌+ℤ◌, ◌≤ℤ◌, ◌<ℤ◌}
+use Rattle.std.proofs.Common.{rules, ◌∙◌, sym, subst, List, take, arith, length-set, to_z, w64}
+use Rattle.std.specs.Prelude.{ℤ, ◌≤ℤ◌}
 use Rattle.std.proofs.lemmas.Int.{ints}
-use Rattle.std.proofs.Math.ListN.{set}
 use Rattle.ms_top.specs.Search.{FitBehind, LeastBehind, NoneBehind}
-use Rattle.ms_top.proofs.Enumerating.{fit_here, all_taken, empty_of, fit_more, found_more, none_more, none_all, next_front, front_kept}
+use Rattle.ms_top.proofs.Enumerating.{fit_here, all_taken, empty_of, fit_more, found_more, none_more, next_front, front_kept}
 use Rattle.ms_top.proofs.enumerate.+least.Goals as goal
 
 pub set_least-all_hold-requires : goal.set_least-all_hold-requires

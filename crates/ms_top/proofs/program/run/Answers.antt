@@ -1,8 +1,7 @@
-use Rattle.std.proofs.Common.{◌≡◌, ◌∙◌, sym, subst, List, ℕ, Option}
-use Rattle.std.specs.Prelude.{ℤ}
+use Rattle.std.proofs.Common.{◌∙◌, sym, subst, List, ℕ}
 use Rattle.ms_io.specs.Files.{HasFile}
 use Rattle.ms_top.specs.Answer.{Answers, IsGiven}
-use Rattle.ms_top.proofs.OneAnswer.{remaining, remains_read, remains_write, name_is, plain_answer, none_answer, lex_answer, form_answer}
+use Rattle.ms_top.proofs.OneAnswer.{remaining, remains_read, remains_write, name_is, plain_answer, none_answer, lex_answer, syntax_answer, deep_answer, form_answer}
 use Rattle.ms_top.proofs.program.run.Goals as goal
 use Rattle.ms_top.proofs.program.run.Given.{Over}
 
@@ -29,6 +28,16 @@ returns-clause-unsatisfiable g c = λ bytes m given none no_read no_write.
 pub returns-clause-lex : goal.returns-clause-lex
 returns-clause-lex g c = λ bytes place kind read.
     lex_answer bytes _ _ c.report-2.result (answered g c bytes read.given) place kind
+    (λ e. read.no_fault (c.answer_file-status.ensures.read_fault (remains_read _ _ c.report-2.ensures.status e)))
+
+pub returns-clause-syntax : goal.returns-clause-syntax
+returns-clause-syntax g c = λ bytes place read.
+    syntax_answer bytes _ _ c.report-2.result (answered g c bytes read.given) place
+    (λ e. read.no_fault (c.answer_file-status.ensures.read_fault (remains_read _ _ c.report-2.ensures.status e)))
+
+pub returns-clause-deep : goal.returns-clause-deep
+returns-clause-deep g c = λ bytes place read.
+    deep_answer bytes _ _ c.report-2.result (answered g c bytes read.given) place
     (λ e. read.no_fault (c.answer_file-status.ensures.read_fault (remains_read _ _ c.report-2.ensures.status e)))
 
 pub returns-clause-form : goal.returns-clause-form

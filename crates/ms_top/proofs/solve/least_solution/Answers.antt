@@ -1,4 +1,4 @@
-use Rattle.std.proofs.Common.{◌≡◌, ◌∙◌, List}
+use Rattle.std.proofs.Common.{◌≡◌, ◌∙◌}
 use Rattle.ms_top.specs.Solution.{domains, constraint_trees}
 use Rattle.ms_top.proofs.Fitting.{small_fits}
 use Rattle.ms_top.proofs.solve.least_solution.Goals as goal

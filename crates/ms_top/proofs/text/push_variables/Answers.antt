@@ -1,4 +1,4 @@
-use Rattle.std.proofs.Common.{rules, ◌≡◌, ◌∙◌, ◌++◌, ap, sym, append_assoc, refl, add-one, take, get_or, to_z, of_z, w64, to_z-of_z}
+use Rattle.std.proofs.Common.{rules, ◌∙◌, ◌++◌, ap, sym, append_assoc, refl, add-one, take, get_or, to_z, of_z, w64, to_z-of_z}
 use Rattle.std.specs.Prelude.{ℤ, pos}
 use mir.Val.{SFits}
 use Rattle.ms_top.specs.Text.{variable_line, variable_lines}

@@ -1,9 +1,6 @@
 //! The plain form: variables with ranges of numbers, comparisons of sums, and `solve satisfy`.
 
-ghost use Rattle.std.specs.Prelude.{◌≡◌, ℕ, List};
-ghost use Rattle.ms_syntax.specs.Plain.{model_tokens, IsPlainText};
-
-use crate::token::Word;
+use ms_syntax::Word;
 use sqlite_items::Items;
 
 /// A number as it is written, with a `-` before its digits or not.
@@ -13,7 +10,7 @@ pub struct Number {
     pub magnitude: u64,
 }
 
-/// `var LOWEST .. HIGHEST : NAME ;`
+/// `var LOWEST .. HIGHEST : NAME`
 #[derive(Debug, Drop)]
 pub struct PlainDeclaration {
     pub lowest: Number,
@@ -44,7 +41,7 @@ pub enum Relation {
     AtLeast,
 }
 
-/// `constraint LEFT RELATION RIGHT ;`
+/// `constraint LEFT RELATION RIGHT`
 #[derive(Debug, Drop)]
 pub struct Comparison {
     pub left: Total,
@@ -52,17 +49,9 @@ pub struct Comparison {
     pub right: Total,
 }
 
-/// A text of the plain form.
+/// A model of the plain form.
 #[derive(Debug, Drop)]
 pub struct PlainModel {
     pub declarations: Items<PlainDeclaration>,
     pub constraints: Items<Comparison>,
-    /// Whether the last `;` is there.
-    pub closed: bool,
 }
-
-/// A token list is written by one model of the plain form at most, and so is a text.
-pub fn one_plain_model()
-    ensures of_tokens { (m n : PlainModel) → model_tokens m ≡ model_tokens n → m ≡ n }
-    ensures of_text { (m n : PlainModel) (bytes : List ℕ) → IsPlainText m bytes → IsPlainText n bytes → m ≡ n }
-{}
