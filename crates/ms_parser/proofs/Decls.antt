@@ -18,7 +18,8 @@ use Rattle.ms_syntax.specs.Grammar.{Tokens, ◌⋅◌, the, at, from, operands, 
 use Rattle.ms_parser.specs.declared.reach.Reach.{Reach}
 use Rattle.ms_parser.specs.declared.reach.Reach.TheVariants as reach
 use Rattle.ms_parser.specs.Reading.{Out, bad, deep, Parser, ◌>>=◌, ok, and_then, pick, front, after, pure, by, must, into, skip, closing}
-use Rattle.ms_parser.specs.Kinds.{a_name, symbol, keyword, is_symbol, when}
+use Rattle.ms_syntax.specs.Kind.{is_symbol}
+use Rattle.ms_parser.specs.Kinds.{a_name, symbol, keyword, when}
 use Rattle.ms_parser.specs.Rules.{a_word, past_declaration, past_name, index_set, index_sets, set_base, base, marked, kind, note_arguments, note_rest, notes, value, declared, declaration, more_locals, locals, local, reads, nested, under, tier, signed}
 use Rattle.ms_parser.proofs.Classes.{name_class, symbol_class, keyword_class}
 use Rattle.ms_parser.proofs.Exact as e

@@ -9,7 +9,7 @@ use Rattle.ms_syntax.specs.Grammar.{Tokens}
 use Rattle.ms_parser.specs.declared.fault.ParseFault.{ParseFault}
 use Rattle.ms_parser.specs.declared.fault.ParseFault.TheVariants.{Syntax, Deep, Memory}
 use Rattle.ms_parser.specs.declared.reach.Reach.{Reach}
-use Rattle.ms_parser.specs.Reading.{ok, bad, Parser, and_then}
+use Rattle.ms_parser.specs.Reading.{Out, ok, bad, deep, deeper, Parser, and_then}
 use Rattle.ms_parser.specs.Reads.{Nests, Fails}
 use Rattle.ms_parser.specs.Rules.{under, reads, nested, inmost, locals, tier, behind}
 use Rattle.ms_parser.proofs.Decls.{under_reads, nested_one}
@@ -74,3 +74,8 @@ operand_fails top operand ts fault g =
     moved Memory g = tt
     moved (Syntax m) g = tier_none operand ts ∙ g
     moved (Deep m) g = tier_none operand ts ∙ g
+
+-- a bracket has opened, so one less may open
+pub opened : (d : ℕ) (ts r : Tokens) → deeper d (tt {0}) ts ≡ ok (tt {0}) r → 0 < d
+opened zero ts r h = absurd (let wrong : ◌≡◌ {A = Out (Unit {0})} (deep (length ts)) (ok (tt {0}) r) = h in cc)
+opened (suc d) ts r h = omega arith

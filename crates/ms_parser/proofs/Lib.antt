@@ -17,3 +17,11 @@ pub mod Items
 pub mod Assigned
 pub mod Modeled
 pub mod Grouped
+pub mod Kept
+pub mod Gathered
+pub mod Views
+pub mod Declared
+pub mod Linked
+pub mod Told
+pub mod Whole
+pub mod Where

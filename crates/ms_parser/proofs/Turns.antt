@@ -84,3 +84,17 @@ module _ (e : ℕ) (inner inmost : Reach → Parser Ex) where
           ≡ and_then (pick q (λ a. by (symbol s.CloseBrace) (λ b z. pure (last true)) (into item (declaration e inner inmost)) (after ts)) (skip (symbol s.CloseBrace) (pure (last false)) ts)) (go_on (more_locals e inner inmost n))
       at_mark None = at_end (must (symbol s.CloseBrace) ts)
       at_mark (Some a) = at_close (front (symbol s.CloseBrace) (after ts)) (after (after ts)) (after ts)
+
+  -- no turn is left, so the closing brace comes
+  module _ (found : List Decl) (ts : Tokens) (whole : Out (List Decl × Bool)) (so_far : grown_by found (more_locals e inner inmost 0 ts) ≡ whole) where
+    at_brace : (o : Out (Unit {0} × Spanned)) → must (symbol s.CloseBrace) ts ≡ o → grown_by found (and_then o (λ c. pure {A = List Decl × Bool} ([], false))) ≡ whole
+    unfolding more_locals
+    at_brace o h = ap (λ o. grown_by found (and_then o (λ c. pure {A = List Decl × Bool} ([], false)))) (sym h) ∙ so_far
+
+    pub locals_over : (c : Unit {0} × Spanned) (r : Tokens) → must (symbol s.CloseBrace) ts ≡ ok c r → whole ≡ ok (found, false) r
+    locals_over c r h = sym (at_brace (ok c r) h) ∙ ap (λ v. pure {A = List Decl × Bool} (v, false) r) (append-nil found)
+
+    pub locals_open : (fault : ParseFault) → Fails (must (symbol s.CloseBrace) ts) fault → Fails whole fault
+    locals_open Memory h = tt
+    locals_open (Syntax k) h = sym (at_brace (bad k) h)
+    locals_open (Deep k) h = sym (at_brace (deep k) h)

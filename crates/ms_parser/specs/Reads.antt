@@ -9,7 +9,8 @@ use Rattle.ms_parser.specs.declared.fault.ParseFault.{ParseFault}
 use Rattle.ms_parser.specs.declared.fault.ParseFault.TheVariants.{Syntax, Deep, Memory}
 use Rattle.ms_parser.specs.declared.reach.Reach.{Reach}
 use Rattle.ms_parser.specs.Reading.{Out, ok, bad, deep}
-use Rattle.ms_parser.specs.Rules.{under}
+use Rattle.ms_parser.specs.Rules.{under, Turn, item, last}
+use Rattle.ms_parser.specs.declared.turn.Turn.{Turn as Ends}
 
 abbrev pub Fails : {A : Type 0} → Out A → ParseFault → Type 0
 Fails outcome Memory = Unit {0}
@@ -24,3 +25,7 @@ Reads view outcome (Err e) new = Fails outcome e
 pub record Nests (depth : ℕ) (pre : Global → MutBor Tokens → ℕ → Reach → Type 0) (post : Global → MutBor Tokens → ℕ → Reach → Result Expr ParseFault → MutBor Tokens → Type 0) : Type 0 where
   pub callable : (alloc : Global) (old : MutBor Tokens) (n : ℕ) (reach : Reach) → n ≤ depth → pre alloc old n reach
   pub reads : (alloc : Global) (old new : MutBor Tokens) (n : ℕ) (reach : Reach) (r : Result Expr ParseFault) → post alloc old n reach r new → Reads ex_view (under n reach old.now) r new.now
+
+abbrev pub turn_view : {X A : Type 0} → (X → A) → Ends X → Turn A
+turn_view view (Ends.Item x) = item (view x)
+turn_view view (Ends.Last c) = last c

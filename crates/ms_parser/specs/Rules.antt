@@ -14,7 +14,8 @@ use Rattle.ms_syntax.specs.Tree.{Names, Ex, Maybe, Exs, Links, Arms, Rows, Subsc
 use Rattle.ms_parser.specs.declared.reach.Reach.{Reach}
 use Rattle.ms_parser.specs.declared.reach.Reach.TheVariants as reach
 use Rattle.ms_parser.specs.Reading.{Parser, ok, pick, front, ◌>>=◌, pure, fail, by, must, deeper, opening, many, sealed, placed, pair, into, skip, closing, shut, enter, finish}
-use Rattle.ms_parser.specs.Kinds.{a_number, a_text, a_name, a_truth, a_sign, symbol, keyword, is_symbol, is_keyword, infix_of, when}
+use Rattle.ms_syntax.specs.Kind.{is_symbol, is_keyword}
+use Rattle.ms_parser.specs.Kinds.{a_number, a_text, a_name, a_truth, a_sign, symbol, keyword, infix_of, when}
 
 -- ---- names that generators declare
 
@@ -39,11 +40,6 @@ generators_from ns (x.ex _ more) = None
 
 abbrev pub generators_of : Exs → Option Gens
 generators_of es = generators_from [] es
-
--- a name and its set, of the parts of a membership
-abbrev pub member_of : Ex → Links → Option ((Place × List ℕ) × Ex)
-member_of (x.name p w) (x.link o.In q e x.no_links) = Some ((p, w), e)
-member_of _ _ = None
 
 -- a token of f, where the expressions are generators
 abbrev pub if_generators : Exs → (Token → Option (Unit {0})) → Token → Option Gens

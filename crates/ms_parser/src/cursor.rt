@@ -1,12 +1,14 @@
 //! The tokens that are left.
 
-ghost use Rattle.std.specs.Prelude.{◌≡◌, length, is_some, option_map, if◌then◌else◌};
-ghost use Rattle.ms_parser.specs.Reading.{front, after, must, sealed, place_at};
+ghost use Rattle.std.specs.Prelude.{◌≡◌, [], length, is_some, option_map, if◌then◌else◌};
+ghost use Rattle.ms_parser.specs.Reading.{front, after, must, sealed, place_at, finish};
 ghost use Rattle.ms_parser.specs.Reads.{Reads};
 ghost use Rattle.ms_parser.specs.Kinds as kinds;
+ghost use Rattle.ms_parser.specs.Behind.{past};
 
+use crate::behind::Behind;
 use crate::fault::ParseFault;
-use crate::kind::{infix, is_keyword, is_symbol, sign, truth};
+use crate::kind::{infix, sign, truth};
 use ms_syntax::{Keyword, Operator, Place, Sign, Spanned, Symbol, Token, Word};
 use std::marker::Model;
 
@@ -42,7 +44,7 @@ impl<'a> Cursor<'a> {
         ensures { result ≡ is_some (front (kinds.symbol symbol) self.now) }
     {
         match self.rest.first() {
-            Some(first) => is_symbol(symbol, &first.token),
+            Some(first) => first.token.is_symbol(symbol),
             None => false,
         }
     }
@@ -52,7 +54,7 @@ impl<'a> Cursor<'a> {
         ensures { result ≡ is_some (front (kinds.keyword keyword) self.now) }
     {
         match self.rest.first() {
-            Some(first) => is_keyword(keyword, &first.token),
+            Some(first) => first.token.is_keyword(keyword),
             None => false,
         }
     }
@@ -63,7 +65,7 @@ impl<'a> Cursor<'a> {
         ensures rest { self.new ≡ (if result then after self.old else self.old) }
     {
         match self.rest.split_first() {
-            Some((first, others)) if is_symbol(symbol, &first.token) => {
+            Some((first, others)) if first.token.is_symbol(symbol) => {
                 self.rest = others;
                 true
             }
@@ -77,7 +79,7 @@ impl<'a> Cursor<'a> {
         ensures rest { self.new ≡ (if result then after self.old else self.old) }
     {
         match self.rest.split_first() {
-            Some((first, others)) if is_keyword(keyword, &first.token) => {
+            Some((first, others)) if first.token.is_keyword(keyword) => {
                 self.rest = others;
                 true
             }
@@ -91,7 +93,7 @@ impl<'a> Cursor<'a> {
         ensures rest { self.new ≡ (if is_some result then after self.old else self.old) }
     {
         let (first, others) = self.rest.split_first()?;
-        if !is_symbol(symbol, &first.token) {
+        if !first.token.is_symbol(symbol) {
             return None;
         }
         self.rest = others;
@@ -104,7 +106,7 @@ impl<'a> Cursor<'a> {
         ensures rest { self.new ≡ (if is_some result then after self.old else self.old) }
     {
         let (first, others) = self.rest.split_first()?;
-        if !is_keyword(keyword, &first.token) {
+        if !first.token.is_keyword(keyword) {
             return None;
         }
         self.rest = others;
@@ -248,5 +250,28 @@ impl<'a> Cursor<'a> {
                 col: 0,
             },
         }
+    }
+
+    /// The next token may stand behind such a part.
+    pub fn before(&self, behind: Behind) -> Result<(), ParseFault>
+        ensures { Reads (λ x. tt {0}) (sealed (past behind) (tt {0}) self.now) result self.now }
+    {
+        let Some(first) = self.rest.first() else {
+            return Ok(());
+        };
+        if behind.allows(&first.token) {
+            return Ok(());
+        }
+        Err(ParseFault::Syntax(self.rest.len()))
+    }
+
+    /// No token may be left.
+    pub fn finish(&self) -> Result<(), ParseFault>
+        ensures { Reads (λ x. tt {0}) (finish (tt {0}) self.now) result [] }
+    {
+        if self.rest.is_empty() {
+            return Ok(());
+        }
+        Err(ParseFault::Syntax(self.rest.len()))
     }
 }

@@ -7,11 +7,20 @@
 //! The laws here are what follows of trees alone.
 #![tactic(auto)]
 
+mod behind;
 mod cursor;
+mod declaration;
 mod fault;
+mod generators;
+mod grammar;
+mod inside;
 mod kind;
 mod laws;
+mod level;
 mod reach;
+mod top;
+mod turn;
 
 pub use fault::ParseFault;
 pub use laws::{chains_group, one_data, one_expression, one_model};
+pub use top::{MAX_NESTING, statement};
