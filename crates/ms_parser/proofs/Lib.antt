@@ -11,6 +11,7 @@ pub mod Loops
 pub mod Decls
 pub mod Law
 pub mod Turns
+pub mod Listed
 pub mod Accepted
 pub mod Depth
 pub mod Items

@@ -5,3 +5,4 @@ pub mod Gathering
 pub mod Reads
 pub mod Answers
 pub mod Behind
+pub mod Outermost

@@ -1,14 +1,15 @@
 //! The tokens that are left.
 
-ghost use Rattle.std.specs.Prelude.{◌≡◌, [], length, is_some, option_map, if◌then◌else◌};
+ghost use Rattle.std.specs.Prelude.{◌≡◌, ◌↔◌, [], length, is_some, option_map, IsTrue, if◌then◌else◌};
 ghost use Rattle.ms_parser.specs.Reading.{front, after, must, sealed, place_at, finish};
 ghost use Rattle.ms_parser.specs.Reads.{Reads};
 ghost use Rattle.ms_parser.specs.Kinds as kinds;
 ghost use Rattle.ms_parser.specs.Behind.{past};
+ghost use Rattle.ms_parser.specs.Rules as rules;
 
 use crate::behind::Behind;
 use crate::fault::ParseFault;
-use crate::kind::{infix, sign, truth};
+use crate::kind::{begins_kind, infix, sign, truth};
 use ms_syntax::{Keyword, Operator, Place, Sign, Spanned, Symbol, Token, Word};
 use std::marker::Model;
 
@@ -177,6 +178,14 @@ impl<'a> Cursor<'a> {
         }
     }
 
+    /// Takes the next token, which has to be a text.
+    pub fn expect_text(&mut self) -> Result<(&'a Word, &'a Spanned), ParseFault>
+        ensures { Reads (λ r. (r.0.now, r.1.now)) (must kinds.a_text self.old) result self.new }
+    {
+        let left = self.left();
+        self.eat_text().ok_or(ParseFault::Syntax(left))
+    }
+
     /// Takes the next token if it is a number.
     pub fn eat_number(&mut self) -> Option<(u64, &'a Spanned)>
         ensures taken { option_map (λ r. (r.0, r.1.now)) result ≡ front kinds.a_number self.old }
@@ -263,6 +272,22 @@ impl<'a> Cursor<'a> {
             return Ok(());
         }
         Err(ParseFault::Syntax(self.rest.len()))
+    }
+
+    pub fn is_empty(&self) -> bool
+        ensures { IsTrue result ↔ (self.now ≡ []) }
+    {
+        self.rest.is_empty()
+    }
+
+    /// Whether the next token is a word that begins a kind.
+    pub fn sees_kind(&self) -> bool
+        ensures { result ≡ is_some (front rules.kind_word self.now) }
+    {
+        match self.rest.first() {
+            Some(first) => begins_kind(&first.token),
+            None => false,
+        }
     }
 
     /// No token may be left.

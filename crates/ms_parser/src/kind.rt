@@ -2,9 +2,24 @@
 
 ghost use Rattle.std.specs.Prelude.{◌≡◌};
 ghost use Rattle.ms_parser.specs.Kinds as kinds;
+ghost use Rattle.ms_parser.specs.Rules.{is_kind_word};
 ghost use Rattle.ms_syntax.specs.Grammar.{operands as operands_of};
 
 use ms_syntax::{Keyword, Operator, Sign, Symbol, Token};
+
+/// Whether the token is a word that begins a kind.
+pub fn begins_kind(token: &Token) -> bool
+    ensures { result ≡ is_kind_word token.now }
+{
+    token.is_keyword(Keyword::Array)
+        || token.is_keyword(Keyword::Var)
+        || token.is_keyword(Keyword::Par)
+        || token.is_keyword(Keyword::Bool)
+        || token.is_keyword(Keyword::Int)
+        || token.is_keyword(Keyword::String)
+        || token.is_keyword(Keyword::Ann)
+        || token.is_keyword(Keyword::Set)
+}
 
 pub fn truth(token: &Token) -> Option<bool>
     ensures { result ≡ kinds.a_truth token.now }

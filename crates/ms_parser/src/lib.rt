@@ -1,26 +1,39 @@
 //! Trees from tokens.
 //!
+//! [`statement`], [`assignments`] and [`model`] read a list of tokens as an expression, as data and as a model. Each
+//! answers the one tree that the grammar writes as the tokens, with brackets and `if` nested at most
+//! [`MAX_NESTING`] deep; and else the first token with which no list of the grammar goes on, or the first that opens
+//! too deep. Want of memory alone is free.
+//!
 //! `specs/Rules.antt` has a rule for each production, as what it reads of a list of tokens: a value with the
-//! tokens behind it, the first token that cannot stand there, or the first that opens a bracket too deep. What is
-//! proved of the rules of expressions, of data and of models is that each reads exactly what the grammar writes with
-//! brackets nested at most 200 deep, and that a fault is the first token with which no list of the grammar goes on.
-//! The laws here are what follows of trees alone.
+//! tokens behind it, the first token that cannot stand there, or the first that opens a bracket too deep. Each
+//! function reads what its rule reads, and each rule what the grammar writes (`proofs/`). `laws` has what follows of
+//! trees alone.
 #![tactic(auto)]
 
 mod behind;
 mod cursor;
+mod data;
 mod declaration;
 mod fault;
 mod generators;
 mod grammar;
 mod inside;
+mod item;
 mod kind;
 mod laws;
 mod level;
+mod models;
+mod outermost;
+mod parameters;
 mod reach;
+#[cfg(test)]
+mod tests;
 mod top;
 mod turn;
 
+pub use data::assignments;
 pub use fault::ParseFault;
 pub use laws::{chains_group, one_data, one_expression, one_model};
+pub use models::model;
 pub use top::{MAX_NESTING, statement};

@@ -169,6 +169,12 @@ fn models_are_answered(rt: HostRuntime) -> Result<(), Fail> {
             b"m.mzn:1:18: syntax error\n",
         ),
         (
+            b"constraint a < b < c; solve satisfy;",
+            syntax(1, 18),
+            nothing,
+            b"m.mzn:1:18: syntax error\n",
+        ),
+        (
             b"\n solve % not yet\n",
             syntax(2, 7),
             nothing,
@@ -331,7 +337,11 @@ fn cut_texts_are_answered(rt: HostRuntime) -> Result<(), Fail> {
         if behind == b";".as_slice() {
             assert_eq!(rt; answer, PLAIN);
         } else {
-            assert_eq!(rt; answer.code(), 1);
+            let is_fault = matches!(
+                answer,
+                Status::Refused(Fault::Syntax(_) | Fault::Lex(_, _) | Fault::Form(_))
+            );
+            assert!(rt; is_fault);
             assert_eq!(rt; written.bytes(), b"".as_slice());
         }
     }

@@ -1,0 +1,11 @@
+use Rattle.std.proofs.Common.{◌≡◌, map, ◌-◌, length}
+use Rattle.ms_syntax.specs.Tree.{parameter_view}
+use Rattle.ms_syntax.specs.declared.token.Symbol.TheVariants as s
+use Rattle.ms_parser.specs.Reading.{many_to}
+use Rattle.ms_parser.specs.Kinds.{symbol}
+use Rattle.ms_parser.specs.Outermost.{parameter}
+use Rattle.ms_parser.proofs.Loops.{grown}
+use Rattle.ms_parser.proofs.parameters.more_parameters.Given as goal
+
+abbrev pub invariant-loop-turn : goal.invariant-loop-turn
+invariant-loop-turn l = (l._turn-end ≡ length l.fn.tokens) × (grown (map parameter_view l.found.items) (many_to (l._turn-end - l._turn) (symbol s.Comma) (λ a y. parameter) l.tokens) ≡ many_to (length l.fn.tokens) (symbol s.Comma) (λ a y. parameter) l.fn.tokens)
