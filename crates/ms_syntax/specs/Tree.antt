@@ -109,12 +109,6 @@ mutual
 
 -- ---- lists
 
-abbrev Lk : Type 0
-Lk = Operator × Place × Ex
-
-abbrev Nt : Type 0
-Nt = Place × List ℕ × Exs
-
 abbrev pub maybe_of : Option Ex → Maybe
 maybe_of None = absent
 maybe_of (Some e) = present e
@@ -310,12 +304,6 @@ exs_view es = exs_of (map ex_view es)
 
 abbrev pub links_view : List Link → Links
 links_view ls = links_of (map link_view ls)
-
-abbrev pub arms_view : List Arm → Arms
-arms_view ls = arms_of (map arm_view ls)
-
-abbrev pub rows_view : List Row → Rows
-rows_view rs = rows_of (map row_view rs)
 
 abbrev pub subscripts_view : List Subscript → Subscripts
 subscripts_view is = subscripts_of (map subscript_view is)

@@ -11,6 +11,7 @@ use crate::tree::{
 use std::alloc::{AllocError, Global};
 
 impl Binder {
+    /// A name with its place once more.
     pub fn copy(&self, alloc: Global) -> Result<Binder, AllocError>
         ensures { IfOk result (λ copied. copied ≡ self.now) }
     {
@@ -32,6 +33,8 @@ fn copy_binders(alloc: Global, binders: &[Binder]) -> Result<Vec<Binder>, AllocE
 }
 
 impl Expr {
+    /// The same tree once more: it writes the same tokens at the same places. Only the room that its lists have
+    /// set aside may differ, which no view sees.
     #[cycle(copy)]
     pub fn copy(&self, alloc: Global) -> Result<Expr, AllocError>
         ensures { IfOk result (λ copied. ex_view copied ≡ ex_view self.now) }

@@ -89,6 +89,7 @@ impl Keyword {
 }
 
 impl Token {
+    /// Whether it is this mark or operator.
     pub fn is_symbol(&self, symbol: Symbol) -> bool
         ensures value { result ≡ spec.is_symbol symbol self.now }
         ensures means { IsTrue result ↔ (self.now ≡ Token.Symbol symbol) }
@@ -99,6 +100,7 @@ impl Token {
         }
     }
 
+    /// Whether it is this keyword.
     pub fn is_keyword(&self, keyword: Keyword) -> bool
         ensures value { result ≡ spec.is_keyword keyword self.now }
         ensures means { IsTrue result ↔ (self.now ≡ Token.Keyword keyword) }
