@@ -2,9 +2,9 @@
 use Rattle.std.proofs.Common.{◌≡◌, ℕ, ◌-◌, ◌≤◌, suc, [], length}
 use Rattle.ms_syntax.specs.Tree.{Ex}
 use Rattle.ms_syntax.specs.Grammar.{Tokens, Writes, IsShallow, SyntaxAt, DeepAt}
-use Rattle.ms_parser.specs.declared.reach.Reach.TheVariants as reach
-use Rattle.ms_parser.specs.Reading.{ok, bad, deep}
-use Rattle.ms_parser.specs.Rules.{under, statement}
+use Rattle.ms_expressions.specs.declared.reach.Reach.TheVariants as reach
+use Rattle.ms_expressions.specs.Reading.{ok, bad, deep}
+use Rattle.ms_expressions.specs.Rules.{under, statement}
 use Rattle.ms_parser.proofs.Exact.{Exact, nobody}
 use Rattle.ms_parser.proofs.Enclosed.{e_any, nobody_fresh}
 use Rattle.ms_parser.proofs.Decls.{under_exact}

@@ -6,10 +6,10 @@ use Rattle.ms_syntax.specs.declared.token.Symbol.TheVariants as s
 use Rattle.ms_syntax.specs.declared.token.Place.{Place}
 use Rattle.ms_syntax.specs.Tree.{Ex, Pairs}
 use Rattle.ms_syntax.specs.Grammar.{Tokens, ◌⋅◌, mark, Writes, WritesPair, WritesPairs, IsShallow, SyntaxAt, DeepAt}
-use Rattle.ms_parser.specs.Reading.{ok, bad, deep}
+use Rattle.ms_expressions.specs.Reading.{ok, bad, deep}
 use Rattle.ms_syntax.specs.Kind.{is_symbol}
-use Rattle.ms_parser.specs.Kinds.{when}
-use Rattle.ms_parser.specs.Rules.{past_pair, items, assignment, assignments}
+use Rattle.ms_expressions.specs.Kinds.{when}
+use Rattle.ms_expressions.specs.Rules.{past_pair, items, assignment, assignments}
 use Rattle.ms_parser.proofs.Classes.{symbol_class}
 use Rattle.ms_parser.proofs.Exact.{Exact, nobody, either}
 use Rattle.ms_parser.proofs.Parts.{Pair, both, behind, shut_by}

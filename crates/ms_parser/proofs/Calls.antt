@@ -11,11 +11,11 @@ use Rattle.ms_syntax.specs.declared.tree.Operator.TheVariants as o
 use Rattle.ms_syntax.specs.Tree as x
 use Rattle.ms_syntax.specs.Tree.{Names, Ex, Maybe, Exs, Gens}
 use Rattle.ms_syntax.specs.Grammar.{Tokens, ◌⋅◌, at, bound, Writes, WritesNames, WritesMoreNames, WritesMore, WritesList, WritesSome, WritesWhere, WritesGens, WritesMoreGens, mark, word, opens, left_after}
-use Rattle.ms_parser.specs.declared.reach.Reach.{Reach}
-use Rattle.ms_parser.specs.declared.reach.Reach.TheVariants as reach
-use Rattle.ms_parser.specs.Reading.{Parser, ◌>>=◌, must, enter, sealed, into, closing, shut}
-use Rattle.ms_parser.specs.Kinds.{symbol, keyword}
-use Rattle.ms_parser.specs.Rules.{generators_from, generators_of, if_generators, after_where, generator_body, after_list, arguments}
+use Rattle.ms_expressions.specs.declared.reach.Reach.{Reach}
+use Rattle.ms_expressions.specs.declared.reach.Reach.TheVariants as reach
+use Rattle.ms_expressions.specs.Reading.{Parser, ◌>>=◌, must, enter, sealed, into, closing, shut}
+use Rattle.ms_expressions.specs.Kinds.{symbol, keyword}
+use Rattle.ms_expressions.specs.Rules.{generators_from, generators_of, if_generators, after_where, generator_body, after_list, arguments}
 use Rattle.ms_parser.proofs.Classes.{symbol_class, keyword_class}
 use Rattle.ms_parser.proofs.Exact.{Exact, Seq, Just, One, Cases, either, some_or, nobody, append_nil}
 use Rattle.ms_parser.proofs.Read as r

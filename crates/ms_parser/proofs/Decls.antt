@@ -15,12 +15,13 @@ use Rattle.ms_syntax.specs.declared.tree.Operator.TheVariants as o
 use Rattle.ms_syntax.specs.Tree as x
 use Rattle.ms_syntax.specs.Tree.{Names, Ex, Maybe, Exs, Links, Decl, Decls, Kd, Bs, Indices, Notes, decls_of, notes_of}
 use Rattle.ms_syntax.specs.Grammar.{Tokens, ◌⋅◌, the, at, from, operands, Writes, WritesSome, WritesIndex, WritesIndices, WritesMode, WritesBase, WritesKind, WritesNotes, WritesArguments, WritesValue, WritesDecl, WritesDecls, WritesMoreDecls, mark, word}
-use Rattle.ms_parser.specs.declared.reach.Reach.{Reach}
-use Rattle.ms_parser.specs.declared.reach.Reach.TheVariants as reach
-use Rattle.ms_parser.specs.Reading.{Out, bad, deep, Parser, ◌>>=◌, ok, and_then, pick, front, after, pure, by, must, into, skip, closing}
+use Rattle.ms_expressions.specs.declared.reach.Reach.{Reach}
+use Rattle.ms_expressions.specs.declared.reach.Reach.TheVariants as reach
+use Rattle.ms_expressions.specs.Reading.{Out, bad, deep, Parser, ◌>>=◌, ok, and_then, pick, front, after, pure, by, must, into, skip, closing}
 use Rattle.ms_syntax.specs.Kind.{is_symbol}
-use Rattle.ms_parser.specs.Kinds.{a_name, symbol, keyword, when}
-use Rattle.ms_parser.specs.Rules.{a_word, past_declaration, past_name, index_set, index_sets, set_base, base, marked, kind, note_arguments, note_rest, notes, value, declared, declaration, more_locals, locals, local, reads, nested, under, tier, signed}
+use Rattle.ms_expressions.specs.Kinds.{a_name, symbol, keyword, when}
+use Rattle.ms_expressions.specs.Rules.{a_word, past_declaration, past_name, index_set, index_sets, set_base, base, marked, kind, note_arguments, note_rest, notes, value, declared, declaration, more_locals, locals, local, reads, nested, under, tier, signed}
+use Rattle.ms_expressions.proofs.Depth.{under_reads, nested_one}
 use Rattle.ms_parser.proofs.Classes.{name_class, symbol_class, keyword_class}
 use Rattle.ms_parser.proofs.Exact as e
 use Rattle.ms_parser.proofs.Exact.{Exact, Seq, Just, One, Cases, Many, Stops, Found, either, some_or, nobody, append_nil, extend, stops_nobody}
@@ -778,14 +779,6 @@ module _ (d : ℕ) (inner inmost : Reach → Parser Ex) (any : (l : ℕ) → d �
   range_exact n I fresh = tiers 4 (omega arith) n I (signed_of I fresh)
 
 -- the reader inside a bracket of one is the reader with a bracket less
-pub nested_one : (d : ℕ) → (nested (suc d)).1 ≡ under d
-unfolding nested under
-nested_one d = refl
-
-pub under_reads : (d : ℕ) (c : Reach) → under (suc d) c ≡ reads d (under d) (nested d).1 c
-unfolding nested under
-under_reads d c = refl
-
 step : (d : ℕ) → ((l : ℕ) → d ≡ suc l → ReadsAll l) → ((l : ℕ) → d ≡ suc (suc l) → ReadsAll l) → ReadsAll d
 step d one two n I fresh = (
   subst (λ (p : Parser Ex). Exact n d d I e_any Writes p) (sym (under_reads d reach.Any)) (any_exact d (under d) (nested d).1 inner_any inner_range inmost_any inmost_range n I fresh),

@@ -5,9 +5,9 @@ use Rattle.ms_syntax.specs.declared.token.Token.TheVariants as tok
 use Rattle.ms_syntax.specs.declared.token.Symbol.TheVariants as s
 use Rattle.ms_syntax.specs.declared.token.Spanned.{Spanned}
 use Rattle.ms_syntax.specs.Grammar.{Tokens, WritesMoreItems, WritesItems, left}
-use Rattle.ms_parser.specs.Reading.{Out, bad, deep, Parser, ◌>>=◌, ok, and_then, pick, front, pure, sealed, into}
-use Rattle.ms_parser.specs.Kinds.{symbol}
-use Rattle.ms_parser.specs.Rules.{or_end, any_token, more_items, items}
+use Rattle.ms_expressions.specs.Reading.{Out, bad, deep, Parser, ◌>>=◌, ok, and_then, pick, front, pure, sealed, into}
+use Rattle.ms_expressions.specs.Kinds.{symbol}
+use Rattle.ms_expressions.specs.Rules.{or_end, any_token, more_items, items}
 use Rattle.ms_parser.proofs.Classes.{symbol_class}
 use Rattle.ms_parser.proofs.Exact as e
 use Rattle.ms_parser.proofs.Exact.{Exact, Seq, Just, One, Cases, Stops, Found, Stuck, Passes, IsDeep, SameHead, either, some_or, nobody, append_nil, extend, stops_nobody}

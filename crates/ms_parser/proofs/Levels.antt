@@ -15,11 +15,11 @@ use Rattle.ms_syntax.specs.declared.tree.Sign.TheVariants as g
 use Rattle.ms_syntax.specs.Tree as x
 use Rattle.ms_syntax.specs.Tree.{Names, Ex, Maybe, Exs, Gens, Links, Subscripts, links_of, subscripts_of}
 use Rattle.ms_syntax.specs.Grammar.{Tokens, ◌⋅◌, at, from, BeginsAt, operands, single, sign_of, mark_of, truth_of, Writes, WritesLinks, WritesSubscripts, left_after}
-use Rattle.ms_parser.specs.declared.reach.Reach.{Reach}
-use Rattle.ms_parser.specs.declared.reach.Reach.TheVariants as reach
-use Rattle.ms_parser.specs.Reading.{Parser, ◌>>=◌, pure, into, shut, place_at}
-use Rattle.ms_parser.specs.Kinds.{a_name, a_number, a_text, a_sign, symbol, only, infix_of}
-use Rattle.ms_parser.specs.Rules.{chained, accessing, is_single, named, closed, bracketed, atom, opened_subscript, subscripts, accessed, signed, one_more, links, behind as behind_rule, tier, arguments, set_rest}
+use Rattle.ms_expressions.specs.declared.reach.Reach.{Reach}
+use Rattle.ms_expressions.specs.declared.reach.Reach.TheVariants as reach
+use Rattle.ms_expressions.specs.Reading.{Parser, ◌>>=◌, pure, into, shut, place_at}
+use Rattle.ms_expressions.specs.Kinds.{a_name, a_number, a_text, a_sign, symbol, only, infix_of}
+use Rattle.ms_expressions.specs.Rules.{chained, accessing, is_single, named, closed, bracketed, atom, opened_subscript, subscripts, accessed, signed, one_more, links, behind as behind_rule, tier, arguments, set_rest}
 use Rattle.ms_parser.proofs.Classes.{name_class, number_class, text_class, truth_class, sign_class, symbol_class, keyword_class, operator_has, infix_is, infix_has}
 use Rattle.ms_parser.proofs.Exact.{Exact, Seq, Just, One, Cases, Many, either, some_or, nobody, append_nil}
 use Rattle.ms_parser.proofs.Read as r

@@ -6,15 +6,15 @@ use Rattle.ms_syntax.specs.declared.token.Spanned.{Spanned}
 use Rattle.ms_syntax.specs.declared.token.Place.{Place}
 use Rattle.ms_syntax.specs.Tree.{Ex}
 use Rattle.ms_syntax.specs.Grammar.{Tokens}
-use Rattle.ms_parser.specs.declared.fault.ParseFault.{ParseFault}
-use Rattle.ms_parser.specs.declared.fault.ParseFault.TheVariants.{Syntax, Deep, Memory}
-use Rattle.ms_parser.specs.Reads.{Fails}
-use Rattle.ms_parser.specs.Reading.{Out, ok, bad, deep, Parser, and_then, pure, pick, front, after, into, place_at, finish, sealed, ◌>>=◌}
-use Rattle.ms_parser.specs.Kinds.{symbol}
-use Rattle.ms_parser.specs.Rules.{Turn, item, last, or_end, any_token, more_items, items, item_turn}
-use Rattle.ms_parser.specs.Rules as r
+use Rattle.ms_expressions.specs.declared.fault.ParseFault.{ParseFault}
+use Rattle.ms_expressions.specs.declared.fault.ParseFault.TheVariants.{Syntax, Deep, Memory}
+use Rattle.ms_expressions.specs.Reads.{Fails}
+use Rattle.ms_expressions.specs.Reading.{Out, ok, bad, deep, Parser, and_then, pure, pick, front, after, into, place_at, finish, sealed, ◌>>=◌}
+use Rattle.ms_expressions.specs.Kinds.{symbol}
+use Rattle.ms_expressions.specs.Rules.{Turn, item, last, or_end, any_token, more_items, items, item_turn}
+use Rattle.ms_expressions.specs.Rules as r
 use Rattle.ms_parser.specs.Outermost.{range, of_range, behind_range}
-use Rattle.ms_parser.proofs.Turns.{grown_by, go_on, turns_over}
+use Rattle.ms_expressions.proofs.Turns.{grown_by, go_on, turns_over}
 
 pub finish_none : (ts t : Tokens) → finish (tt {0}) ts ≡ ok tt t → ts ≡ []
 finish_none [] t h = refl

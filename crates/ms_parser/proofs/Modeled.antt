@@ -13,11 +13,11 @@ use Rattle.ms_syntax.specs.declared.tree.Mode.TheVariants as m
 use Rattle.ms_syntax.specs.Tree as x
 use Rattle.ms_syntax.specs.Tree.{Names, Ex, Maybe, Decl, Kd, Bs, Indices, Notes, Params, Gl, It, Items}
 use Rattle.ms_syntax.specs.Grammar.{Tokens, ◌⋅◌, the, at, from, BeginsAt, mark_of, Writes, WritesNames, WritesNotes, WritesDecl, WritesNameList, WritesElements, WritesParam, WritesMoreParams, WritesParamList, WritesParams, WritesGoal, WritesItem, WritesTree, WritesBase, WritesIndices, WritesMode, WritesKind, IsShallow, SyntaxAt, DeepAt, mark, left, left_after}
-use Rattle.ms_parser.specs.declared.reach.Reach.TheVariants as reach
-use Rattle.ms_parser.specs.Reading.{Out, bad, deep, Parser, ok, pick, tagged, pair, into, skip, placed}
+use Rattle.ms_expressions.specs.declared.reach.Reach.TheVariants as reach
+use Rattle.ms_expressions.specs.Reading.{Out, bad, deep, Parser, ok, pick, tagged, pair, into, skip, placed}
 use Rattle.ms_syntax.specs.Kind.{is_symbol, is_keyword}
-use Rattle.ms_parser.specs.Kinds.{a_text, symbol, keyword, when}
-use Rattle.ms_parser.specs.Rules.{a_word, past_declaration, notes, kind, declared, declaration, under, peek, kind_word, a_string, past_condition, past_solve, if_name, name_list, last_value, elements, parameter, more_parameters, parameter_list, parameters, constrained, goal, solved, of_range, an_item, items, model}
+use Rattle.ms_expressions.specs.Kinds.{a_text, symbol, keyword, when}
+use Rattle.ms_expressions.specs.Rules.{a_word, past_declaration, notes, kind, declared, declaration, under, peek, kind_word, a_string, past_condition, past_solve, if_name, name_list, last_value, elements, parameter, more_parameters, parameter_list, parameters, constrained, goal, solved, of_range, an_item, items, model}
 use Rattle.ms_parser.proofs.Classes.{text_class, symbol_class, keyword_class}
 use Rattle.ms_parser.proofs.Exact.{Exact, Seq, Just, One, Cases, Many, Stops, Found, Stuck, Passes, IsDeep, SameHead, either, some_or, nobody, append_nil}
 use Rattle.ms_parser.proofs.Read as r

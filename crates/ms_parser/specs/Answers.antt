@@ -1,7 +1,7 @@
 -- What a call answers where one value is written so.
 use Rattle.std.specs.Prelude.{◌≡◌, Result, Ok, Err}
-use Rattle.ms_parser.specs.declared.fault.ParseFault.{ParseFault}
-use Rattle.ms_parser.specs.declared.fault.ParseFault.TheVariants.{Syntax, Deep, Memory}
+use Rattle.ms_expressions.specs.declared.fault.ParseFault.{ParseFault}
+use Rattle.ms_expressions.specs.declared.fault.ParseFault.TheVariants.{Syntax, Deep, Memory}
 
 abbrev pub GivesUnlessMemory : {X A : Type 0} → (X → A) → A → Result X ParseFault → Type 0
 GivesUnlessMemory view x (Ok e) = view e ≡ x

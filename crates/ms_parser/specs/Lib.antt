@@ -1,8 +1,2 @@
-pub mod Reading
-pub mod Kinds
-pub mod Rules
-pub mod Gathering
-pub mod Reads
 pub mod Answers
-pub mod Behind
 pub mod Outermost

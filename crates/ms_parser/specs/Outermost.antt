@@ -7,13 +7,13 @@ use Rattle.ms_syntax.specs.declared.token.Place.{Place}
 use Rattle.ms_syntax.specs.declared.tree.Mode.TheVariants as m
 use Rattle.ms_syntax.specs.Tree as x
 use Rattle.ms_syntax.specs.Tree.{Names, Ex, Maybe, Decl, Kd, Notes, Params, Gl, It}
-use Rattle.ms_parser.specs.declared.behind.Behind.{Behind}
-use Rattle.ms_parser.specs.declared.reach.Reach.TheVariants as reach
-use Rattle.ms_parser.specs.Reading.{Parser, by, pair, into, skip, shut}
-use Rattle.ms_parser.specs.Kinds.{symbol}
-use Rattle.ms_parser.specs.Behind.{past}
-use Rattle.ms_parser.specs.Rules.{under, a_word, a_string, if_name, past_declaration}
-use Rattle.ms_parser.specs.Rules as r
+use Rattle.ms_expressions.specs.declared.behind.Behind.{Behind}
+use Rattle.ms_expressions.specs.declared.reach.Reach.TheVariants as reach
+use Rattle.ms_expressions.specs.Reading.{Parser, by, pair, into, skip, shut}
+use Rattle.ms_expressions.specs.Kinds.{symbol}
+use Rattle.ms_expressions.specs.Behind.{past}
+use Rattle.ms_expressions.specs.Rules.{under, a_word, a_string, if_name, past_declaration}
+use Rattle.ms_expressions.specs.Rules as r
 
 -- ---- of which items are made
 

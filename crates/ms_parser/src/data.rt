@@ -3,20 +3,16 @@
 ghost use Rattle.std.specs.Prelude.{◌≡◌, ℕ, [], map, IfOk, Err};
 ghost use Rattle.ms_syntax.specs.Tree.{Pairs, assignment_view, assignments_view};
 ghost use Rattle.ms_syntax.specs.Grammar.{WritesPairs, IsShallow, SyntaxAt, DeepAt};
-ghost use Rattle.ms_parser.specs.Reads.{Reads, turn_view};
+ghost use Rattle.ms_expressions.specs.Reads.{Reads, turn_view};
 ghost use Rattle.ms_parser.specs.Answers.{GivesUnlessMemory};
-ghost use Rattle.ms_parser.specs.Rules as rules;
+ghost use Rattle.ms_expressions.specs.Rules as rules;
 
-use crate::behind::Behind;
-use crate::cursor::Cursor;
-use crate::fault::ParseFault;
-use crate::inside::binder;
 use crate::outermost::any;
-use crate::turn::Turn;
+use ms_expressions::{Behind, Cursor, ParseFault, Turn, binder};
 use ms_syntax::{Assignment, Assignments, Binder, Spanned, Symbol};
 use std::alloc::Global;
 
-#[tactic(auto, unfolding(crate::specs::Rules::assignment))]
+#[tactic(auto, unfolding(ms_expressions::specs::Rules::assignment))]
 fn assignment(alloc: Global, tokens: &mut Cursor<'_>) -> Result<Assignment, ParseFault>
     ensures { Reads assignment_view (rules.assignment tokens.old) result tokens.new }
 {
@@ -28,7 +24,7 @@ fn assignment(alloc: Global, tokens: &mut Cursor<'_>) -> Result<Assignment, Pars
 }
 
 /// An assignment behind a semicolon, or the end and whether a last semicolon is there.
-#[tactic(auto, unfolding(crate::specs::Rules::item_turn))]
+#[tactic(auto, unfolding(ms_expressions::specs::Rules::item_turn))]
 fn assignment_turn(alloc: Global, tokens: &mut Cursor<'_>) -> Result<Turn<Assignment>, ParseFault>
     ensures { Reads (turn_view assignment_view) (rules.item_turn rules.assignment tokens.old) result tokens.new }
 {
@@ -61,7 +57,7 @@ fn list(alloc: Global, tokens: &mut Cursor<'_>) -> Result<(Vec<Assignment>, bool
     Ok((found, false))
 }
 
-#[tactic(auto, unfolding(crate::specs::Rules::assignments))]
+#[tactic(auto, unfolding(ms_expressions::specs::Rules::assignments))]
 fn whole_data(alloc: Global, tokens: &[Spanned]) -> Result<Assignments, ParseFault>
     ensures { Reads assignments_view (rules.assignments tokens.now) result [] }
 {

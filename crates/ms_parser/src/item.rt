@@ -2,22 +2,18 @@
 
 ghost use Rattle.std.specs.Prelude.{◌≡◌, option_map};
 ghost use Rattle.ms_syntax.specs.Tree.{ex_view, names_view, goal_view, item_view};
-ghost use Rattle.ms_parser.specs.Reads.{Reads};
-ghost use Rattle.ms_parser.specs.Rules as rules;
+ghost use Rattle.ms_expressions.specs.Reads.{Reads};
+ghost use Rattle.ms_expressions.specs.Rules as rules;
 ghost use Rattle.ms_parser.specs.Outermost as spec;
 
-use crate::behind::Behind;
-use crate::cursor::Cursor;
-use crate::declaration::word;
-use crate::fault::ParseFault;
-use crate::inside::names;
 use crate::outermost::{any, declaration, declared, kind, notes, range};
 use crate::parameters::parameters;
+use ms_expressions::{Behind, Cursor, ParseFault, names, word};
 use ms_syntax::{Base, Binder, Expr, Goal, Item, Keyword, Kind, Mode, Place, Symbol};
 use std::alloc::Global;
 
 /// The last expression of an item.
-#[tactic(auto, unfolding(crate::specs::Rules::last_value))]
+#[tactic(auto, unfolding(ms_expressions::specs::Rules::last_value))]
 fn last_value(alloc: Global, tokens: &mut Cursor<'_>) -> Result<Expr, ParseFault>
     ensures { Reads ex_view (spec.last_value tokens.old) result tokens.new }
 {
@@ -35,7 +31,7 @@ fn include(alloc: Global, tokens: &mut Cursor<'_>, place: Place) -> Result<Item,
 }
 
 /// Names, and the closing brace.
-#[tactic(auto, unfolding(crate::specs::Rules::name_list))]
+#[tactic(auto, unfolding(ms_expressions::specs::Rules::name_list))]
 fn name_list(alloc: Global, tokens: &mut Cursor<'_>) -> Result<Vec<Binder>, ParseFault>
     ensures { Reads (λ v. names_view v.items) (rules.name_list tokens.old) result tokens.new }
 {
@@ -48,7 +44,7 @@ fn name_list(alloc: Global, tokens: &mut Cursor<'_>) -> Result<Vec<Binder>, Pars
 }
 
 /// The names of an enumeration, if they are given.
-#[tactic(auto, unfolding(crate::specs::Rules::elements))]
+#[tactic(auto, unfolding(ms_expressions::specs::Rules::elements))]
 fn elements(alloc: Global, tokens: &mut Cursor<'_>) -> Result<Option<Vec<Binder>>, ParseFault>
     ensures { Reads (option_map (λ v. names_view v.items)) (spec.elements tokens.old) result tokens.new }
 {
@@ -70,7 +66,7 @@ fn enumeration(alloc: Global, tokens: &mut Cursor<'_>, place: Place) -> Result<I
     Ok(Item::Enum(place, name, names))
 }
 
-#[tactic(auto, unfolding(crate::specs::Rules::constrained))]
+#[tactic(auto, unfolding(ms_expressions::specs::Rules::constrained))]
 fn constraint(alloc: Global, tokens: &mut Cursor<'_>, place: Place) -> Result<Item, ParseFault>
     ensures { Reads item_view (spec.constraint place tokens.old) result tokens.new }
 {
@@ -81,7 +77,7 @@ fn constraint(alloc: Global, tokens: &mut Cursor<'_>, place: Place) -> Result<It
     Ok(Item::Constraint(place, condition, notes))
 }
 
-#[tactic(auto, unfolding(crate::specs::Rules::goal))]
+#[tactic(auto, unfolding(ms_expressions::specs::Rules::goal))]
 fn goal(alloc: Global, tokens: &mut Cursor<'_>) -> Result<Goal, ParseFault>
     ensures { Reads goal_view (spec.goal tokens.old) result tokens.new }
 {
@@ -99,7 +95,7 @@ fn goal(alloc: Global, tokens: &mut Cursor<'_>) -> Result<Goal, ParseFault>
     Ok(Goal::Search(token.place, last_value(alloc, tokens)?))
 }
 
-#[tactic(auto, unfolding(crate::specs::Rules::solved))]
+#[tactic(auto, unfolding(ms_expressions::specs::Rules::solved))]
 fn solve(alloc: Global, tokens: &mut Cursor<'_>, place: Place) -> Result<Item, ParseFault>
     ensures { Reads item_view (spec.solve place tokens.old) result tokens.new }
 {
@@ -176,7 +172,7 @@ fn behind_range(
 }
 
 /// An item that begins with no word of its own.
-#[tactic(auto, unfolding(crate::specs::Rules::of_range))]
+#[tactic(auto, unfolding(ms_expressions::specs::Rules::of_range))]
 fn of_range(alloc: Global, tokens: &mut Cursor<'_>) -> Result<Item, ParseFault>
     ensures { Reads item_view (spec.of_range tokens.old) result tokens.new }
 {
@@ -185,7 +181,7 @@ fn of_range(alloc: Global, tokens: &mut Cursor<'_>) -> Result<Item, ParseFault>
     behind_range(alloc, tokens, place, first)
 }
 
-#[tactic(auto, unfolding(crate::specs::Rules::an_item))]
+#[tactic(auto, unfolding(ms_expressions::specs::Rules::an_item))]
 pub fn item(alloc: Global, tokens: &mut Cursor<'_>) -> Result<Item, ParseFault>
     ensures { Reads item_view (spec.an_item tokens.old) result tokens.new }
 {

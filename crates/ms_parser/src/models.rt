@@ -3,20 +3,18 @@
 ghost use Rattle.std.specs.Prelude.{◌≡◌, ℕ, [], map, IfOk, Err};
 ghost use Rattle.ms_syntax.specs.Tree.{Items, item_view, tree_view};
 ghost use Rattle.ms_syntax.specs.Grammar.{WritesTree, IsShallow, SyntaxAt, DeepAt};
-ghost use Rattle.ms_parser.specs.Reads.{Reads, turn_view};
+ghost use Rattle.ms_expressions.specs.Reads.{Reads, turn_view};
 ghost use Rattle.ms_parser.specs.Answers.{GivesUnlessMemory};
-ghost use Rattle.ms_parser.specs.Rules as rules;
+ghost use Rattle.ms_expressions.specs.Rules as rules;
 ghost use Rattle.ms_parser.specs.Outermost as spec;
 
-use crate::cursor::Cursor;
-use crate::fault::ParseFault;
 use crate::item::item;
-use crate::turn::Turn;
+use ms_expressions::{Cursor, ParseFault, Turn};
 use ms_syntax::{Item, Spanned, Symbol, Tree};
 use std::alloc::Global;
 
 /// An item behind a semicolon, or the end and whether a last semicolon is there.
-#[tactic(auto, unfolding(crate::specs::Rules::item_turn))]
+#[tactic(auto, unfolding(ms_expressions::specs::Rules::item_turn))]
 fn item_turn(alloc: Global, tokens: &mut Cursor<'_>) -> Result<Turn<Item>, ParseFault>
     ensures { Reads (turn_view item_view) (rules.item_turn spec.an_item tokens.old) result tokens.new }
 {
@@ -49,7 +47,7 @@ fn items(alloc: Global, tokens: &mut Cursor<'_>) -> Result<(Vec<Item>, bool), Pa
     Ok((found, false))
 }
 
-#[tactic(auto, unfolding(crate::specs::Rules::model))]
+#[tactic(auto, unfolding(ms_expressions::specs::Rules::model))]
 fn whole_model(alloc: Global, tokens: &[Spanned]) -> Result<Tree, ParseFault>
     ensures { Reads tree_view (rules.model tokens.now) result [] }
 {

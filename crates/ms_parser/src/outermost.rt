@@ -2,15 +2,11 @@
 
 ghost use Rattle.std.specs.Prelude.{◌≡◌};
 ghost use Rattle.ms_syntax.specs.Tree.{ex_view, kind_view, notes_view, declaration_view};
-ghost use Rattle.ms_parser.specs.Reads.{Reads};
+ghost use Rattle.ms_expressions.specs.Reads.{Reads};
 ghost use Rattle.ms_parser.specs.Outermost as spec;
 
-use crate::behind::Behind;
-use crate::cursor::Cursor;
-use crate::fault::ParseFault;
-use crate::grammar::Grammar;
-use crate::reach::Reach;
-use crate::top::{MAX_NESTING, expr};
+use crate::expression::MAX_NESTING;
+use ms_expressions::{Behind, Cursor, Grammar, ParseFault, Reach, expr};
 use ms_syntax::{Declaration, Expr, Kind, Note, Place};
 use std::alloc::Global;
 
@@ -44,7 +40,7 @@ pub fn parameter_kind(alloc: Global, tokens: &mut Cursor<'_>) -> Result<Kind, Pa
 }
 
 /// Notes on such a part.
-#[tactic(auto, unfolding(crate::specs::Rules::notes))]
+#[tactic(auto, unfolding(ms_expressions::specs::Rules::notes))]
 pub fn notes(
     alloc: Global,
     tokens: &mut Cursor<'_>,

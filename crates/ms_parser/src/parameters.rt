@@ -3,19 +3,17 @@
 ghost use Rattle.std.specs.Prelude.{◌≡◌};
 ghost use Rattle.ms_syntax.specs.Tree.{parameter_view, params_view};
 ghost use Rattle.ms_syntax.specs.declared.token.Symbol.TheVariants as s;
-ghost use Rattle.ms_parser.specs.Reading.{many};
-ghost use Rattle.ms_parser.specs.Reads.{Reads};
-ghost use Rattle.ms_parser.specs.Kinds as kinds;
+ghost use Rattle.ms_expressions.specs.Reading.{many};
+ghost use Rattle.ms_expressions.specs.Reads.{Reads};
+ghost use Rattle.ms_expressions.specs.Kinds as kinds;
 ghost use Rattle.ms_parser.specs.Outermost as spec;
 
-use crate::cursor::Cursor;
-use crate::declaration::word;
-use crate::fault::ParseFault;
 use crate::outermost::parameter_kind;
+use ms_expressions::{Cursor, ParseFault, word};
 use ms_syntax::{Parameter, Symbol};
 use std::alloc::Global;
 
-#[tactic(auto, unfolding(crate::specs::Rules::parameter))]
+#[tactic(auto, unfolding(ms_expressions::specs::Rules::parameter))]
 fn parameter(alloc: Global, tokens: &mut Cursor<'_>) -> Result<Parameter, ParseFault>
     ensures { Reads parameter_view (spec.parameter tokens.old) result tokens.new }
 {
@@ -40,7 +38,7 @@ fn more_parameters(alloc: Global, tokens: &mut Cursor<'_>) -> Result<Vec<Paramet
 }
 
 /// Parameters, and the closing bracket.
-#[tactic(auto, unfolding(crate::specs::Rules::parameter_list, crate::specs::Rules::more_parameters))]
+#[tactic(auto, unfolding(ms_expressions::specs::Rules::parameter_list, ms_expressions::specs::Rules::more_parameters))]
 fn parameter_list(alloc: Global, tokens: &mut Cursor<'_>) -> Result<Vec<Parameter>, ParseFault>
     ensures { Reads (λ v. params_view v.items) (spec.parameter_list tokens.old) result tokens.new }
 {
@@ -54,7 +52,7 @@ fn parameter_list(alloc: Global, tokens: &mut Cursor<'_>) -> Result<Vec<Paramete
     Ok(found)
 }
 
-#[tactic(auto, unfolding(crate::specs::Rules::parameters))]
+#[tactic(auto, unfolding(ms_expressions::specs::Rules::parameters))]
 pub fn parameters(alloc: Global, tokens: &mut Cursor<'_>) -> Result<Vec<Parameter>, ParseFault>
     ensures { Reads (λ v. params_view v.items) (spec.parameters tokens.old) result tokens.new }
 {

@@ -5,8 +5,8 @@ use Rattle.ms_base.specs.declared.run.Closing.TheVariants.{Plain, Unsatisfiable}
 use Rattle.ms_syntax.specs.declared.token.Spanned.{Spanned}
 use Rattle.ms_syntax.specs.Tree.{Items}
 use Rattle.ms_syntax.specs.Grammar.{WritesTree, SyntaxAt, DeepAt}
-use Rattle.ms_parser.specs.declared.fault.ParseFault.{ParseFault}
-use Rattle.ms_parser.specs.declared.fault.ParseFault.TheVariants as parse
+use Rattle.ms_expressions.specs.declared.fault.ParseFault.{ParseFault}
+use Rattle.ms_expressions.specs.declared.fault.ParseFault.TheVariants as parse
 use Rattle.ms_top.specs.declared.plain.PlainModel.{PlainModel}
 use Rattle.ms_top.specs.Plain.{IsPlain}
 use Rattle.ms_top.specs.declared.answer.Refusal.{Refusal}

@@ -2,12 +2,12 @@ use Rattle.std.proofs.Common.{◌≡◌, ◌-◌, map, [], ◌∷◌, ◌++◌, 
 use Rattle.std.proofs.lemmas.List.{map-append}
 use Rattle.std.proofs.lemmas.Result.{err_from_is_err_and}
 use Rattle.ms_syntax.specs.Tree.{assignment_view}
-use Rattle.ms_parser.specs.Reading.{ok}
-use Rattle.ms_parser.specs.Reads.{turn_view}
-use Rattle.ms_parser.specs.Rules.{more_items, item_turn, last}
-use Rattle.ms_parser.specs.Rules as r
-use Rattle.ms_parser.specs.Rules.{assignment}
-use Rattle.ms_parser.proofs.Turns.{grown_by, turn_more, turn_last, turn_fails}
+use Rattle.ms_expressions.specs.Reading.{ok}
+use Rattle.ms_expressions.specs.Reads.{turn_view}
+use Rattle.ms_expressions.specs.Rules.{more_items, item_turn, last}
+use Rattle.ms_expressions.specs.Rules as r
+use Rattle.ms_expressions.specs.Rules.{assignment}
+use Rattle.ms_expressions.proofs.Turns.{grown_by, turn_more, turn_last, turn_fails}
 use Rattle.ms_parser.proofs.Listed.{items_unroll, items_none, items_begin, items_fail, items_over, items_left, finish_none}
 use Rattle.ms_parser.proofs.data.list.Goals as goal
 

@@ -2,9 +2,9 @@ use Rattle.std.proofs.Common.{map, [], ◌∷◌, ap, ◌∙◌, arith}
 use Rattle.std.proofs.lemmas.List.{map-append}
 use Rattle.ms_syntax.specs.Tree.{parameter_view}
 use Rattle.ms_syntax.specs.declared.token.Symbol.TheVariants as s
-use Rattle.ms_parser.specs.Kinds.{symbol}
+use Rattle.ms_expressions.specs.Kinds.{symbol}
 use Rattle.ms_parser.specs.Outermost.{parameter}
-use Rattle.ms_parser.proofs.Loops.{loop_step, loop_stop, loop_fails, loop_over}
+use Rattle.ms_expressions.proofs.Loops.{loop_step, loop_stop, loop_fails, loop_over}
 use Rattle.std.proofs.lemmas.Result.{err_from_is_err_and}
 use Rattle.ms_parser.proofs.parameters.more_parameters.Goals as goal
 

@@ -1,10 +1,10 @@
 use Rattle.std.proofs.Common.{◌≡◌, map, ◌-◌, length}
 use Rattle.ms_syntax.specs.Tree.{parameter_view}
 use Rattle.ms_syntax.specs.declared.token.Symbol.TheVariants as s
-use Rattle.ms_parser.specs.Reading.{many_to}
-use Rattle.ms_parser.specs.Kinds.{symbol}
+use Rattle.ms_expressions.specs.Reading.{many_to}
+use Rattle.ms_expressions.specs.Kinds.{symbol}
 use Rattle.ms_parser.specs.Outermost.{parameter}
-use Rattle.ms_parser.proofs.Loops.{grown}
+use Rattle.ms_expressions.proofs.Loops.{grown}
 use Rattle.ms_parser.proofs.parameters.more_parameters.Given as goal
 
 abbrev pub invariant-loop-turn : goal.invariant-loop-turn

@@ -1,0 +1,11 @@
+pub mod Loops
+pub mod Turns
+pub mod Depth
+pub mod Kept
+pub mod Gathered
+pub mod Views
+pub mod Declared
+pub mod Linked
+pub mod Told
+pub mod Entered
+pub mod Where

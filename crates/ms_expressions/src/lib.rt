@@ -1,0 +1,36 @@
+//! Expressions from the front of a list of tokens.
+//!
+//! What reads a part of a text reads it from a [`Cursor`], which contracts see as the tokens that are left. `specs/`
+//! has a rule for each production (`Rules`), as what it reads of a list of tokens: a value with the tokens behind it,
+//! the first token that cannot stand there, or the first that opens a bracket too deep (`Reading`). Each function
+//! here reads what its rule reads (`Reads`), unless memory fails: the same value by its view, the same tokens left,
+//! the same faulty token, told by how many tokens are left there. That the rules read exactly what the grammar
+//! writes is no matter of this crate, and is proved in the one above, where the rules of items stand too.
+//!
+//! The rules that hold expressions are methods of [`Grammar`], which has the function that reads an expression as a
+//! value: of it a rule needs only that it reads where fewer brackets may open (`Nests`). So each is proved by itself,
+//! and the one recursion is [`expr`], by the number of brackets that may open.
+#![tactic(auto)]
+
+mod behind;
+mod cursor;
+mod declaration;
+mod fault;
+mod generators;
+mod grammar;
+mod inside;
+mod kind;
+mod level;
+mod reach;
+mod recursion;
+mod turn;
+
+pub use behind::Behind;
+pub use cursor::Cursor;
+pub use declaration::word;
+pub use fault::ParseFault;
+pub use grammar::Grammar;
+pub use inside::{binder, names};
+pub use reach::Reach;
+pub use recursion::expr;
+pub use turn::Turn;

@@ -1,0 +1,54 @@
+//! Whole expressions.
+
+ghost use Rattle.std.specs.Prelude.{◌≡◌, ℕ, [], IfOk, Err};
+ghost use Rattle.ms_syntax.specs.Tree.{Ex, ex_view};
+ghost use Rattle.ms_syntax.specs.Grammar.{Writes, IsShallow, SyntaxAt, DeepAt};
+ghost use Rattle.ms_expressions.specs.Reads.{Reads};
+ghost use Rattle.ms_expressions.specs.Rules as spec;
+ghost use Rattle.ms_parser.specs.Answers.{GivesUnlessMemory};
+
+use ms_expressions::{Cursor, ParseFault, Reach, expr};
+use ms_syntax::{Expr, Spanned};
+use std::alloc::Global;
+
+/// How deep brackets and `if` may nest.
+pub const MAX_NESTING: usize = 200;
+
+fn whole_statement(alloc: Global, tokens: &[Spanned]) -> Result<Expr, ParseFault>
+    ensures { Reads ex_view (spec.statement tokens.now) result [] }
+{
+    let mut cursor = Cursor::new(tokens);
+    let read = expr(alloc, &mut cursor, MAX_NESTING + 1, Reach::Any)?;
+    cursor.finish()?;
+    Ok(read)
+}
+
+/// A fault by its place from the front.
+fn answer(tokens: &[Spanned], read: Result<Expr, ParseFault>) -> Result<Expr, ParseFault>
+    requires { Reads ex_view (spec.statement tokens.now) read [] }
+    ensures found { IfOk result (λ e. Writes (ex_view e) tokens.now × IsShallow tokens.now) }
+    ensures only { (x : Ex) → Writes x tokens.now → IsShallow tokens.now → GivesUnlessMemory ex_view x result }
+    ensures syntax { (k : ℕ) → result ≡ Err (ParseFault.Syntax k) → SyntaxAt Writes tokens.now k }
+    ensures deep { (k : ℕ) → result ≡ Err (ParseFault.Deep k) → DeepAt Writes tokens.now k }
+{
+    match read {
+        Ok(e) => Ok(e),
+        Err(fault) => match fault {
+            ParseFault::Syntax(left) => Err(ParseFault::Syntax(tokens.len() - left)),
+            ParseFault::Deep(left) => Err(ParseFault::Deep(tokens.len() - left - 1)),
+            ParseFault::Memory => Err(ParseFault::Memory),
+        },
+    }
+}
+
+/// The one expression that the grammar writes as the tokens, with brackets and `if` nested at most
+/// `MAX_NESTING` deep. `Syntax(k)`: the token at `k` is the first with which no expression goes on, or `k` is
+/// the number of tokens and they are no whole one. `Deep(k)`: the token at `k` is the first that nests too deep.
+pub fn statement(alloc: Global, tokens: &[Spanned]) -> Result<Expr, ParseFault>
+    ensures found { IfOk result (λ e. Writes (ex_view e) tokens.now × IsShallow tokens.now) }
+    ensures only { (x : Ex) → Writes x tokens.now → IsShallow tokens.now → GivesUnlessMemory ex_view x result }
+    ensures syntax { (k : ℕ) → result ≡ Err (ParseFault.Syntax k) → SyntaxAt Writes tokens.now k }
+    ensures deep { (k : ℕ) → result ≡ Err (ParseFault.Deep k) → DeepAt Writes tokens.now k }
+{
+    answer(tokens, whole_statement(alloc, tokens))
+}
