@@ -2,7 +2,7 @@
 use Rattle.std.proofs.Common.{◌≡◌, ℕ, List, refl, sym, ap, ◌∙◌}
 use Rattle.ms_syntax.specs.declared.token.Place.{Place}
 use Rattle.ms_syntax.specs.Tree as x
-use Rattle.ms_syntax.specs.Tree.{Ex, Kd, Decl, Notes, Maybe}
+use Rattle.ms_syntax.specs.Tree.{Ex, Kd, Notes, Maybe}
 use Rattle.ms_syntax.specs.Grammar.{Tokens}
 use Rattle.ms_expressions.specs.declared.reach.Reach.{Reach}
 use Rattle.ms_expressions.specs.Reading.{Out, ok, bad, deep, Parser, and_then, pure, into, place_at}

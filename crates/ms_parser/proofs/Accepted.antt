@@ -7,7 +7,7 @@ use Rattle.ms_expressions.specs.Reading.{ok, bad, deep}
 use Rattle.ms_expressions.specs.Rules.{under, statement}
 use Rattle.ms_parser.proofs.Exact.{Exact, nobody}
 use Rattle.ms_parser.proofs.Enclosed.{e_any, nobody_fresh}
-use Rattle.ms_parser.proofs.Decls.{under_exact}
+use Rattle.ms_parser.proofs.Nested.{under_exact}
 use Rattle.ms_parser.proofs.Law as law
 
 exact : (n : ℕ) → Exact n 200 200 nobody e_any Writes (under 201 reach.Any)

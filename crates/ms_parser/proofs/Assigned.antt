@@ -11,11 +11,13 @@ use Rattle.ms_syntax.specs.Kind.{is_symbol}
 use Rattle.ms_expressions.specs.Kinds.{when}
 use Rattle.ms_expressions.specs.Rules.{past_pair, items, assignment, assignments}
 use Rattle.ms_parser.proofs.Classes.{symbol_class}
-use Rattle.ms_parser.proofs.Exact.{Exact, nobody, either}
+use Rattle.ms_parser.proofs.Exact.{Exact, nobody}
+use Rattle.ms_parser.proofs.Choices.{either}
 use Rattle.ms_parser.proofs.Parts.{Pair, both, behind, shut_by}
 use Rattle.ms_parser.proofs.Lists.{restop}
 use Rattle.ms_parser.proofs.Enclosed.{e_any, nobody_fresh, IsName, binder_exact, built}
-use Rattle.ms_parser.proofs.Decls.{under_exact, stop_all, symbol_of}
+use Rattle.ms_parser.proofs.Bases.{stop_all, symbol_of}
+use Rattle.ms_parser.proofs.Nested.{under_exact}
 use Rattle.ms_parser.proofs.Items.{all, items_exact}
 use Rattle.ms_parser.proofs.Law as law
 

@@ -17,7 +17,8 @@ use Rattle.ms_expressions.specs.Reading.{Parser, ◌>>=◌, must, enter, sealed,
 use Rattle.ms_expressions.specs.Kinds.{symbol, keyword}
 use Rattle.ms_expressions.specs.Rules.{generators_from, generators_of, if_generators, after_where, generator_body, after_list, arguments}
 use Rattle.ms_parser.proofs.Classes.{symbol_class, keyword_class}
-use Rattle.ms_parser.proofs.Exact.{Exact, Seq, Just, One, Cases, either, some_or, nobody, append_nil}
+use Rattle.ms_parser.proofs.Exact.{Exact, Seq, Just, One, Cases, nobody, append_nil}
+use Rattle.ms_parser.proofs.Choices.{either, some_or}
 use Rattle.ms_parser.proofs.Read as r
 use Rattle.ms_parser.proofs.Parts.{Pair, Image, Start, Has, token_at, has_closing, has_image, next, both, mapped, behind, closed_by, shut_by, start}
 use Rattle.ms_parser.proofs.Lists.{must_open, restop}

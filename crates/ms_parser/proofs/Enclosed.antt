@@ -7,7 +7,7 @@ use Rattle.ms_syntax.specs.declared.token.Symbol.TheVariants as s
 use Rattle.ms_syntax.specs.declared.token.Spanned.{Spanned}
 use Rattle.ms_syntax.specs.declared.token.Place.{Place}
 use Rattle.ms_syntax.specs.Tree as x
-use Rattle.ms_syntax.specs.Tree.{Names, Ex, Maybe, Exs, Arms, Rows, Subscripts, Gens, exs_of, arms_of, rows_of, gens_of}
+use Rattle.ms_syntax.specs.Tree.{Names, Ex, Maybe, Exs, Arms, Rows, Gens, exs_of, arms_of, rows_of, gens_of}
 use Rattle.ms_syntax.specs.Grammar.{Tokens, ◌⋅◌, the, at, bound, Writes, WritesNames, WritesMoreNames, WritesMore, WritesList, WritesSome, WritesSecond, WritesWhere, WritesGens, WritesMoreGens, WritesMoreRows, WritesRows, WritesArms, mark, word, left_after}
 use Rattle.ms_expressions.specs.declared.reach.Reach.{Reach}
 use Rattle.ms_expressions.specs.declared.reach.Reach.TheVariants as reach
@@ -15,7 +15,8 @@ use Rattle.ms_expressions.specs.Reading.{Parser, ◌>>=◌, ok, and_then, pick, 
 use Rattle.ms_expressions.specs.Kinds.{a_name, symbol, keyword, infix_of}
 use Rattle.ms_expressions.specs.Rules.{a_binder, more_names, names, more, list, listed, second, subscript, generator, more_generators, generators, condition, generated, array_rest, more_rows, rows_rest, set_rest, paren_rest, arm, arms, if_rest}
 use Rattle.ms_parser.proofs.Classes.{Class, name_class, symbol_class, keyword_class}
-use Rattle.ms_parser.proofs.Exact.{Exact, Seq, Just, One, Many, either, nobody, append_nil, extend}
+use Rattle.ms_parser.proofs.Exact.{Exact, Seq, Just, One, Many, nobody, append_nil, extend}
+use Rattle.ms_parser.proofs.Choices.{either}
 use Rattle.ms_parser.proofs.Parts.{Pair, Image, Start, Has, token_at, the_has, has_pair, has_closing, has_skip, has_image, next, both, mapped, retold, none_after, take, behind, closed_by, shut_by, start}
 use Rattle.ms_parser.proofs.Lists.{repeat, listing, placeless, placing}
 

@@ -10,7 +10,8 @@ use Rattle.ms_expressions.specs.Kinds.{symbol}
 use Rattle.ms_expressions.specs.Rules.{or_end, any_token, more_items, items}
 use Rattle.ms_parser.proofs.Classes.{symbol_class}
 use Rattle.ms_parser.proofs.Exact as e
-use Rattle.ms_parser.proofs.Exact.{Exact, Seq, Just, One, Cases, Stops, Found, Stuck, Passes, IsDeep, SameHead, either, some_or, nobody, append_nil, extend, stops_nobody}
+use Rattle.ms_parser.proofs.Exact.{Exact, Seq, Just, Cases, Stops, Found, Stuck, Passes, IsDeep, SameHead, nobody, extend, stops_nobody}
+use Rattle.ms_parser.proofs.Choices.{either}
 use Rattle.ms_parser.proofs.Read as r
 use Rattle.ms_parser.proofs.Parts.{Image, next, mapped, clear_of, step_of}
 

@@ -13,7 +13,7 @@ use Rattle.ms_syntax.specs.declared.tree.Operator.TheVariants as o
 use Rattle.ms_syntax.specs.declared.tree.Sign.{Sign}
 use Rattle.ms_syntax.specs.declared.tree.Sign.TheVariants as g
 use Rattle.ms_syntax.specs.Tree as x
-use Rattle.ms_syntax.specs.Tree.{Names, Ex, Maybe, Exs, Gens, Links, Subscripts, links_of, subscripts_of}
+use Rattle.ms_syntax.specs.Tree.{Ex, Maybe, Links, Subscripts, links_of, subscripts_of}
 use Rattle.ms_syntax.specs.Grammar.{Tokens, ◌⋅◌, at, from, BeginsAt, operands, single, sign_of, mark_of, truth_of, Writes, WritesLinks, WritesSubscripts, left_after}
 use Rattle.ms_expressions.specs.declared.reach.Reach.{Reach}
 use Rattle.ms_expressions.specs.declared.reach.Reach.TheVariants as reach
@@ -21,7 +21,8 @@ use Rattle.ms_expressions.specs.Reading.{Parser, ◌>>=◌, pure, into, shut, pl
 use Rattle.ms_expressions.specs.Kinds.{a_name, a_number, a_text, a_sign, symbol, only, infix_of}
 use Rattle.ms_expressions.specs.Rules.{chained, accessing, is_single, named, closed, bracketed, atom, opened_subscript, subscripts, accessed, signed, one_more, links, behind as behind_rule, tier, arguments, set_rest}
 use Rattle.ms_parser.proofs.Classes.{name_class, number_class, text_class, truth_class, sign_class, symbol_class, keyword_class, operator_has, infix_is, infix_has}
-use Rattle.ms_parser.proofs.Exact.{Exact, Seq, Just, One, Cases, Many, either, some_or, nobody, append_nil}
+use Rattle.ms_parser.proofs.Exact.{Exact, Seq, Just, One, Cases, Many, nobody, append_nil}
+use Rattle.ms_parser.proofs.Choices.{either, some_or}
 use Rattle.ms_parser.proofs.Read as r
 use Rattle.ms_parser.proofs.Parts.{Pair, Image, Start, Has, token_at, the_has, has_pair, next, both, mapped, retold, none_after, shut_by, start, start_open}
 use Rattle.ms_parser.proofs.Lists.{must_open, repeat_open, listing, placeless, placing, placed_exact}

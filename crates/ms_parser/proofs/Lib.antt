@@ -1,5 +1,7 @@
 pub mod Cases
 pub mod Exact
+pub mod Choices
+pub mod Repeats
 pub mod Read
 pub mod Parts
 pub mod Classes
@@ -7,12 +9,15 @@ pub mod Lists
 pub mod Enclosed
 pub mod Calls
 pub mod Levels
+pub mod Bases
 pub mod Decls
+pub mod Nested
 pub mod Law
 pub mod Listed
 pub mod Accepted
 pub mod Items
 pub mod Assigned
+pub mod ItemParts
 pub mod Modeled
 pub mod Grouped
 pub mod Whole

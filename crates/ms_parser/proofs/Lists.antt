@@ -9,7 +9,9 @@ use Rattle.ms_expressions.specs.Reading.{Out, ok, bad, deep, Parser, and_then, �
 use Rattle.ms_parser.proofs.Classes.{Class}
 use Rattle.ms_parser.proofs.Cases as c
 use Rattle.ms_parser.proofs.Exact as e
-use Rattle.ms_parser.proofs.Exact.{Exact, Seq, Just, One, Cases, Many, Found, Stuck, Passes, IsDeep, Stops, SameHead, either, nobody, some_or, append_nil, stops_nobody}
+use Rattle.ms_parser.proofs.Choices as choices
+use Rattle.ms_parser.proofs.Exact.{Exact, Seq, Just, One, Many, Found, IsDeep, Stops, nobody, append_nil, stops_nobody}
+use Rattle.ms_parser.proofs.Choices.{either}
 use Rattle.ms_parser.proofs.Read as r
 use Rattle.ms_parser.proofs.Parts.{Image, Has, token_at, clear_of, step_of, opens_of, next, take}
 
@@ -230,7 +232,7 @@ module _ {A : Type 0} {f : Token → Option A} {t : A → Token} (k : Class f t)
       picked (Some a) = refl
 
   shut_exact : Exact n 0 0 I nobody (One f) (enter 0 f)
-  shut_exact = e.extend n 0 0 I nobody (One f) (enter 0 f) (c.enter 0 f) (λ ts h. at_zero ts) (e.enter_exact n 0 0 I f (token_at (t a0)) a0 (k.has a0) (clear_of k I clear) (opens_of k opener))
+  shut_exact = e.extend n 0 0 I nobody (One f) (enter 0 f) (c.enter 0 f) (λ ts h. at_zero ts) (choices.enter_exact n 0 0 I f (token_at (t a0)) a0 (k.has a0) (clear_of k I clear) (opens_of k opener))
 
   not_in : (ts : Tokens) (x : A × Spanned) (r : Tokens) → enter 0 f ts ≡ ok x r → ⊥
   not_in ts x r h = no_pick (front f ts) (sym (shutting (front f ts) (length ts) (after ts)) ∙ h)

@@ -7,7 +7,8 @@ use Rattle.ms_syntax.specs.Grammar.{Tokens, ◌⋅◌, the, at, opens, left_afte
 use Rattle.ms_expressions.specs.Reading.{Parser, ◌>>=◌, pure, by, must, opening, pair, into, skip, closing, shut}
 use Rattle.ms_parser.proofs.Classes.{Class}
 use Rattle.ms_parser.proofs.Exact as e
-use Rattle.ms_parser.proofs.Exact.{Exact, Seq, Just, One, Cases, Many, Found, Stuck, Passes, IsDeep, Stops, SameHead, either, nobody, some_or, append_nil}
+use Rattle.ms_parser.proofs.Exact.{Exact, Seq, Just, One, Cases, nobody, append_nil}
+use Rattle.ms_parser.proofs.Choices.{either}
 use Rattle.ms_parser.proofs.Read as r
 
 -- ---- languages
