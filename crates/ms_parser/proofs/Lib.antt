@@ -21,3 +21,4 @@ pub mod ItemParts
 pub mod Modeled
 pub mod Grouped
 pub mod Whole
+pub mod Causes

@@ -1,4 +1,4 @@
--- What a call answers where one value is written so.
+-- What a call answers where one value is written so, or one fault stands.
 use Rattle.std.specs.Prelude.{◌≡◌, Result, Ok, Err}
 use Rattle.ms_expressions.specs.declared.fault.ParseFault.{ParseFault}
 use Rattle.ms_expressions.specs.declared.fault.ParseFault.TheVariants.{Syntax, Deep, Memory}
@@ -8,3 +8,9 @@ GivesUnlessMemory view x (Ok e) = view e ≡ x
 GivesUnlessMemory view x (Err Memory) = Unit {0}
 GivesUnlessMemory view x (Err (Syntax k)) = ⊥
 GivesUnlessMemory view x (Err (Deep k)) = ⊥
+
+abbrev pub FailsUnlessMemory : {X : Type 0} → ParseFault → Result X ParseFault → Type 0
+FailsUnlessMemory fault (Ok a) = ⊥
+FailsUnlessMemory fault (Err Memory) = Unit {0}
+FailsUnlessMemory fault (Err (Syntax k)) = fault ≡ Syntax k
+FailsUnlessMemory fault (Err (Deep k)) = fault ≡ Deep k

@@ -4,7 +4,7 @@ ghost use Rattle.std.specs.Prelude.{◌≡◌, ℕ, [], map, IfOk, Err};
 ghost use Rattle.ms_syntax.specs.Tree.{Pairs, assignment_view, assignments_view};
 ghost use Rattle.ms_syntax.specs.Grammar.{WritesPairs, IsShallow, SyntaxAt, DeepAt};
 ghost use Rattle.ms_expressions.specs.Reads.{Reads, turn_view};
-ghost use Rattle.ms_parser.specs.Answers.{GivesUnlessMemory};
+ghost use Rattle.ms_parser.specs.Answers.{GivesUnlessMemory, FailsUnlessMemory};
 ghost use Rattle.ms_expressions.specs.Rules as rules;
 
 use crate::outermost::any;
@@ -95,7 +95,9 @@ pub fn assignments(alloc: Global, tokens: &[Spanned]) -> Result<Assignments, Par
     ensures found { IfOk result (λ d. WritesPairs (assignments_view d) tokens.now × IsShallow tokens.now) }
     ensures only { (x : Pairs) → WritesPairs x tokens.now → IsShallow tokens.now → GivesUnlessMemory assignments_view x result }
     ensures syntax { (k : ℕ) → result ≡ Err (ParseFault.Syntax k) → SyntaxAt WritesPairs tokens.now k }
+    ensures syntax_given { (k : ℕ) → SyntaxAt WritesPairs tokens.now k → FailsUnlessMemory (ParseFault.Syntax k) result }
     ensures deep { (k : ℕ) → result ≡ Err (ParseFault.Deep k) → DeepAt WritesPairs tokens.now k }
+    ensures deep_given { (k : ℕ) → DeepAt WritesPairs tokens.now k → FailsUnlessMemory (ParseFault.Deep k) result }
 {
     answer(tokens, whole_data(alloc, tokens))
 }

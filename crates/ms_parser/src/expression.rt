@@ -5,7 +5,7 @@ ghost use Rattle.ms_syntax.specs.Tree.{Ex, ex_view};
 ghost use Rattle.ms_syntax.specs.Grammar.{Writes, IsShallow, SyntaxAt, DeepAt};
 ghost use Rattle.ms_expressions.specs.Reads.{Reads};
 ghost use Rattle.ms_expressions.specs.Rules as spec;
-ghost use Rattle.ms_parser.specs.Answers.{GivesUnlessMemory};
+ghost use Rattle.ms_parser.specs.Answers.{GivesUnlessMemory, FailsUnlessMemory};
 
 use ms_expressions::{Cursor, ParseFault, Reach, expr};
 use ms_syntax::{Expr, Spanned};
@@ -48,7 +48,9 @@ pub fn statement(alloc: Global, tokens: &[Spanned]) -> Result<Expr, ParseFault>
     ensures found { IfOk result (λ e. Writes (ex_view e) tokens.now × IsShallow tokens.now) }
     ensures only { (x : Ex) → Writes x tokens.now → IsShallow tokens.now → GivesUnlessMemory ex_view x result }
     ensures syntax { (k : ℕ) → result ≡ Err (ParseFault.Syntax k) → SyntaxAt Writes tokens.now k }
+    ensures syntax_given { (k : ℕ) → SyntaxAt Writes tokens.now k → FailsUnlessMemory (ParseFault.Syntax k) result }
     ensures deep { (k : ℕ) → result ≡ Err (ParseFault.Deep k) → DeepAt Writes tokens.now k }
+    ensures deep_given { (k : ℕ) → DeepAt Writes tokens.now k → FailsUnlessMemory (ParseFault.Deep k) result }
 {
     answer(tokens, whole_statement(alloc, tokens))
 }

@@ -3,7 +3,8 @@
 //! [`statement`], [`assignments`] and [`model`] read a list of tokens as an expression, as data and as a model. Each
 //! answers the one tree that the grammar writes as the tokens, with brackets and `if` nested at most
 //! [`MAX_NESTING`] deep; and else the first token with which no list of the grammar goes on, or the first that opens
-//! too deep. Want of memory alone is free. The laws have what follows of trees alone: tokens are written by one
+//! too deep. Each cause is told in both directions: the answer says that it holds, and where it holds the answer is
+//! it. Want of memory alone is free. The laws have what follows of trees alone: tokens are written by one
 //! expression, one model and one list of assignments at most ([`one_expression`], [`one_model`], [`one_data`]), and
 //! how the operators of a chain group ([`chains_group`]).
 //!

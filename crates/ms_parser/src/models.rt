@@ -4,7 +4,7 @@ ghost use Rattle.std.specs.Prelude.{◌≡◌, ℕ, [], map, IfOk, Err};
 ghost use Rattle.ms_syntax.specs.Tree.{Items, item_view, tree_view};
 ghost use Rattle.ms_syntax.specs.Grammar.{WritesTree, IsShallow, SyntaxAt, DeepAt};
 ghost use Rattle.ms_expressions.specs.Reads.{Reads, turn_view};
-ghost use Rattle.ms_parser.specs.Answers.{GivesUnlessMemory};
+ghost use Rattle.ms_parser.specs.Answers.{GivesUnlessMemory, FailsUnlessMemory};
 ghost use Rattle.ms_expressions.specs.Rules as rules;
 ghost use Rattle.ms_parser.specs.Outermost as spec;
 
@@ -82,7 +82,9 @@ pub fn model(alloc: Global, tokens: &[Spanned]) -> Result<Tree, ParseFault>
     ensures found { IfOk result (λ t. WritesTree (tree_view t) tokens.now × IsShallow tokens.now) }
     ensures only { (x : Items) → WritesTree x tokens.now → IsShallow tokens.now → GivesUnlessMemory tree_view x result }
     ensures syntax { (k : ℕ) → result ≡ Err (ParseFault.Syntax k) → SyntaxAt WritesTree tokens.now k }
+    ensures syntax_given { (k : ℕ) → SyntaxAt WritesTree tokens.now k → FailsUnlessMemory (ParseFault.Syntax k) result }
     ensures deep { (k : ℕ) → result ≡ Err (ParseFault.Deep k) → DeepAt WritesTree tokens.now k }
+    ensures deep_given { (k : ℕ) → DeepAt WritesTree tokens.now k → FailsUnlessMemory (ParseFault.Deep k) result }
 {
     answer(tokens, whole_model(alloc, tokens))
 }
