@@ -3,6 +3,7 @@ use Rattle.std.proofs.Common.{◌≡◌, ℕ, ◌-◌, ◌≤◌, suc, [], lengt
 use Rattle.ms_syntax.specs.Tree.{Ex}
 use Rattle.ms_syntax.specs.Grammar.{Tokens, Writes, IsShallow, SyntaxAt, DeepAt}
 use Rattle.ms_expressions.specs.declared.reach.Reach.TheVariants as reach
+use Rattle.ms_parser.specs.Answers.{HasAnswer}
 use Rattle.ms_expressions.specs.Reading.{ok, bad, deep}
 use Rattle.ms_expressions.specs.Rules.{under, statement}
 use Rattle.ms_parser.proofs.Exact.{Exact, nobody}
@@ -47,3 +48,6 @@ only_deep = law.only_deep e_any Writes (under 201 reach.Any) exact
 pub only_ok : (ts : Tokens) (x y : Ex) → statement ts ≡ ok y [] → Writes x ts → IsShallow ts → y ≡ x
 unfolding statement
 only_ok = law.only_ok e_any Writes (under 201 reach.Any) exact
+
+pub some_expression : (ts : Tokens) → HasAnswer Writes ts
+some_expression = law.some_answer e_any Writes (under 201 reach.Any) exact

@@ -6,6 +6,7 @@ use Rattle.ms_syntax.specs.declared.token.Symbol.TheVariants as s
 use Rattle.ms_syntax.specs.declared.token.Place.{Place}
 use Rattle.ms_syntax.specs.Tree.{Ex, Pairs}
 use Rattle.ms_syntax.specs.Grammar.{Tokens, ◌⋅◌, mark, Writes, WritesPair, WritesPairs, IsShallow, SyntaxAt, DeepAt}
+use Rattle.ms_parser.specs.Answers.{HasAnswer}
 use Rattle.ms_expressions.specs.Reading.{ok, bad, deep}
 use Rattle.ms_syntax.specs.Kind.{is_symbol}
 use Rattle.ms_expressions.specs.Kinds.{when}
@@ -80,3 +81,6 @@ only_deep = law.only_deep all WritesPairs (items assignment) exact
 pub only_ok : (ts : Tokens) (x y : Pairs) → assignments ts ≡ ok y [] → WritesPairs x ts → IsShallow ts → y ≡ x
 unfolding assignments
 only_ok = law.only_ok all WritesPairs (items assignment) exact
+
+pub some_data : (ts : Tokens) → HasAnswer WritesPairs ts
+some_data = law.some_answer all WritesPairs (items assignment) exact

@@ -4,6 +4,7 @@ use Rattle.std.specs.Prelude.{option_and_then, IsSome, if◌then◌else◌}
 use Rattle.ms_syntax.specs.declared.token.Token.{Token}
 use Rattle.ms_syntax.specs.declared.token.Spanned.{Spanned}
 use Rattle.ms_syntax.specs.Grammar.{Tokens, left, opens, closes, IsShallow, Begins, CannotGoOn, SyntaxAt, DeepAt}
+use Rattle.ms_parser.specs.Answers.{HasAnswer}
 use Rattle.ms_expressions.specs.Reading.{Out, ok, bad, deep, Parser, and_then, ◌>>=◌, finish}
 use Rattle.ms_parser.proofs.Exact.{nobody, Exact, IsThere, IsDeep, stops_nobody, append_nil, left_from}
 
@@ -174,3 +175,12 @@ module _ {A : Type 0} (E : Token → Bool) (G : A → Tokens → Type 0) (p : Pa
 
   pub only_ok : (ts : Tokens) (x y : A) → (p >>= finish) ts ≡ ok y [] → G x ts → IsShallow ts → y ≡ x
   only_ok ts x y h g s = let e : ok y [] ≡ ok x [] = sym h ∙ whole_only ts x g s in cc
+
+  answer_by : (ts : Tokens) (o : Out A) → (p >>= finish) ts ≡ o → HasAnswer G ts
+  answer_by ts (ok x r) h = let found = whole_found ts x r h in inl (x, found.0, found.1)
+  answer_by ts (bad n) h = inr (inl (length ts - n, whole_syntax ts n h))
+  answer_by ts (deep n) h = inr (inr (length ts - n - 1, whole_deep ts n h))
+
+  -- every list of tokens has an answer
+  pub some_answer : (ts : Tokens) → HasAnswer G ts
+  some_answer ts = answer_by ts ((p >>= finish) ts) refl

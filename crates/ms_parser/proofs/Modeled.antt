@@ -12,6 +12,7 @@ use Rattle.ms_syntax.specs.declared.tree.Mode.TheVariants as m
 use Rattle.ms_syntax.specs.Tree as x
 use Rattle.ms_syntax.specs.Tree.{Ex, Kd, Bs, Indices, It, Items}
 use Rattle.ms_syntax.specs.Grammar.{Tokens, ◌⋅◌, the, Writes, WritesNotes, WritesDecl, WritesElements, WritesParams, WritesGoal, WritesItem, WritesTree, WritesBase, WritesIndices, WritesMode, WritesKind, IsShallow, SyntaxAt, DeepAt, mark, left, left_after}
+use Rattle.ms_parser.specs.Answers.{HasAnswer}
 use Rattle.ms_expressions.specs.Reading.{Out, bad, deep, Parser, ok, pick, tagged, into, skip}
 use Rattle.ms_expressions.specs.Kinds.{symbol, keyword}
 use Rattle.ms_expressions.specs.Rules.{past_declaration, kind, declared, declaration, under, peek, kind_word, if_name, last_value, of_range, an_item, items, model}
@@ -324,3 +325,6 @@ only_ok = law.only_ok all WritesTree model_items exact
 pub model_found : (ts : Tokens) (x : Items) → model ts ≡ ok x [] → WritesTree x ts × IsShallow ts
 unfolding model
 model_found ts x = law.whole_found all WritesTree model_items exact ts x []
+
+pub some_model : (ts : Tokens) → HasAnswer WritesTree ts
+some_model = law.some_answer all WritesTree model_items exact

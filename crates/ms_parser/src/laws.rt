@@ -1,4 +1,5 @@
-//! What the grammar says of all trees: tokens with their places are written by one at most.
+//! What the grammar says of all tokens: with their places they are written by one tree at most, and each list of
+//! them is written so or has a first fault.
 
 ghost use Rattle.std.specs.Prelude.{◌≡◌, ◌==◌, ℕ, false};
 ghost use Rattle.ms_syntax.specs.declared.token.Place.{Place};
@@ -6,6 +7,7 @@ ghost use Rattle.ms_syntax.specs.declared.tree.Operator.{Operator};
 ghost use Rattle.ms_syntax.specs.Tree.{Ex, Items, Links, Pairs, link, of_concat};
 ghost use Rattle.ms_syntax.specs.Grouping.{grouped, followed_by, operand, operation};
 ghost use Rattle.ms_syntax.specs.Grammar.{Tokens, Writes, WritesTree, WritesPairs, IsShallow};
+ghost use Rattle.ms_parser.specs.Answers.{HasAnswer};
 
 /// Tokens that nest no deeper than they may are written by one expression at most.
 pub fn one_expression()
@@ -20,6 +22,14 @@ pub fn one_model()
 /// The same of data.
 pub fn one_data()
     ensures { (ts : Tokens) (x y : Pairs) → WritesPairs x ts → WritesPairs y ts → IsShallow ts → x ≡ y }
+{}
+
+/// Each list of tokens has an answer: a value that is written so, nested no deeper than it may, the first token that
+/// cannot stand there, or the first that nests too deep.
+pub fn some_answer()
+    ensures expressions { (ts : Tokens) → HasAnswer Writes ts }
+    ensures models { (ts : Tokens) → HasAnswer WritesTree ts }
+    ensures assignments { (ts : Tokens) → HasAnswer WritesPairs ts }
 {}
 
 /// The last operator of a chain holds all before it, but for `++`, whose first holds all behind it. So the last

@@ -4,9 +4,9 @@
 //! answers the one tree that the grammar writes as the tokens, with brackets and `if` nested at most
 //! [`MAX_NESTING`] deep; and else the first token with which no list of the grammar goes on, or the first that opens
 //! too deep. Each cause is told in both directions: the answer says that it holds, and where it holds the answer is
-//! it. Want of memory alone is free. The laws have what follows of trees alone: tokens are written by one
-//! expression, one model and one list of assignments at most ([`one_expression`], [`one_model`], [`one_data`]), and
-//! how the operators of a chain group ([`chains_group`]).
+//! it. Want of memory alone is free. The laws have what follows of trees and tokens alone: tokens are written by one
+//! expression, one model and one list of assignments at most ([`one_expression`], [`one_model`], [`one_data`]), each
+//! list of tokens has an answer ([`some_answer`]), and how the operators of a chain group ([`chains_group`]).
 //!
 //! `ms_expressions` has the rules, and reads expressions by them. Here items and data are read, by plain functions,
 //! since they stand where no bracket is open (`specs/Outermost` has their rules there). `proofs/` has that each rule
@@ -25,6 +25,6 @@ mod parameters;
 
 pub use data::assignments;
 pub use expression::{MAX_NESTING, statement};
-pub use laws::{chains_group, one_data, one_expression, one_model};
+pub use laws::{chains_group, one_data, one_expression, one_model, some_answer};
 pub use models::model;
 pub use ms_expressions::ParseFault;
