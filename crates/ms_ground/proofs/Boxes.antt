@@ -5,19 +5,20 @@ use Rattle.std.proofs.Math.ListN.{length-map}
 use Rattle.std.specs.Prelude.{ℤ, pos, negsuc, ◌/◌, int_le, is_some, if◌then◌else◌, ◌^◌, ◌-◌}
 use Rattle.std.specs.Int.{int_min, int_max}
 use Rattle.ms_num.specs.Span.{Span, IsInterval, join_some}
-use Rattle.ms_ground.specs.Value.{how_many}
-use Rattle.ms_ground.specs.Extreme.{so_far_on, onward_on}
-use Rattle.ms_ground.specs.Reach as r
-use Rattle.ms_ground.specs.Reach.{reach}
-use Rattle.ms_ground.specs.Laws.{Fewer, Less}
-use Rattle.ms_ground.specs.Fit.{is_fit, is_numeric, number, numbers, checked, fits}
-use Rattle.ms_ground.specs.declared.tree.Reach.{Reach}
-use Rattle.ms_ground.specs.declared.tree.Ground.{Ground}
-use Rattle.ms_ground.specs.declared.tree.Ground.TheVariants as g
-use Rattle.ms_ground.specs.declared.tree.Ground.TheFolds.{the_lemmas}
-use Rattle.ms_ground.proofs.Bools.{ap2, and_left, and_right, le_of, or_none}
-use Rattle.ms_ground.proofs.Fits.{fit_narrow, drop_here, read_default}
-use Rattle.ms_ground.proofs.Smaller.{reach_proper}
+use Rattle.ms_trees.specs.Value.{how_many}
+use Rattle.ms_spans.specs.Extreme.{so_far_on}
+use Rattle.ms_ground.proofs.Onward.{onward_on}
+use Rattle.ms_trees.specs.Reach as r
+use Rattle.ms_trees.specs.Reach.{reach}
+use Rattle.ms_tree_laws.specs.Laws.{Fewer, Less}
+use Rattle.ms_trees.specs.Fit.{is_fit, is_numeric, number, numbers, checked, fits}
+use Rattle.ms_trees.specs.declared.tree.Reach.{Reach}
+use Rattle.ms_trees.specs.declared.tree.Ground.{Ground}
+use Rattle.ms_trees.specs.declared.tree.Ground.TheVariants as g
+use Rattle.ms_trees.specs.declared.tree.Ground.TheFolds.{the_lemmas}
+use Rattle.ms_trees.proofs.Bools.{ap2, and_left, and_right, le_of, or_none}
+use Rattle.ms_tree_laws.proofs.Fits.{fit_narrow, drop_here, read_default}
+use Rattle.ms_tree_laws.proofs.Smaller.{reach_proper}
 
 or_assoc : (a b c : Bool) → ((a || b) || c) ≡ (a || (b || c))
 or_assoc true b c = refl

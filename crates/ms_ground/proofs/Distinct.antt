@@ -5,17 +5,17 @@ use Rattle.std.proofs.Math.ListN.{length-map}
 use Rattle.std.specs.Prelude.{ℤ, pos, ◌+ℤ◌, ◌-ℤ◌, ◌≤ℤ◌, int_le, int_lt, is_some, if◌then◌else◌}
 use Rattle.std.specs.List.{list_any, list_all}
 use Rattle.ms_num.specs.Span.{Span}
-use Rattle.ms_ground.specs.Value as v
-use Rattle.ms_ground.specs.Value.{Meaning, value}
-use Rattle.ms_ground.specs.Reach as r
-use Rattle.ms_ground.specs.Reach.{reach, points}
-use Rattle.ms_ground.specs.Room.{between, has_many, first_meets}
-use Rattle.ms_ground.specs.Fit.{number, numbers, checked}
-use Rattle.ms_ground.specs.declared.tree.Reach.{Reach}
-use Rattle.ms_ground.specs.declared.tree.Ground.{Ground}
-use Rattle.ms_ground.specs.declared.tree.Ground.TheVariants as g
-use Rattle.ms_ground.proofs.Bools.{and_right, or_left, or_right, le_of, of_le, of_lt, not_le, lt_not, twice_not}
-use Rattle.ms_ground.proofs.Fits.{drop_here, read_default}
+use Rattle.ms_trees.specs.Value as v
+use Rattle.ms_trees.specs.Value.{Meaning, value}
+use Rattle.ms_trees.specs.Reach as r
+use Rattle.ms_trees.specs.Reach.{reach, points}
+use Rattle.ms_spans.specs.Room.{between, has_many, first_meets}
+use Rattle.ms_trees.specs.Fit.{number, numbers, checked}
+use Rattle.ms_trees.specs.declared.tree.Reach.{Reach}
+use Rattle.ms_trees.specs.declared.tree.Ground.{Ground}
+use Rattle.ms_trees.specs.declared.tree.Ground.TheVariants as g
+use Rattle.ms_trees.proofs.Bools.{and_right, or_left, or_right, le_of, of_le, of_lt, not_le, lt_not, twice_not}
+use Rattle.ms_tree_laws.proofs.Fits.{drop_here, read_default}
 
 -- the part at a place, with the later ones
 record Place (xs : List Ground) (k : ℕ) : Type 0 where

@@ -2,15 +2,15 @@
 use Rattle.std.proofs.Common.{◌≡◌, List, ◌∷◌, Bool, true, false, not, ◌&&◌, Option, Some, None, map, refl, sym, ap, ◌∙◌}
 use Rattle.std.specs.Prelude.{unwrap_or, if◌then◌else◌}
 use Rattle.ms_num.specs.Span.{Span, add_span}
-use Rattle.ms_ground.specs.Reach as r
-use Rattle.ms_ground.specs.Reach.{reach}
+use Rattle.ms_trees.specs.Reach as r
+use Rattle.ms_trees.specs.Reach.{reach}
 use Rattle.ms_ground.specs.Known.{known, number_on, truth_on, passes, both_pass, all_pass}
-use Rattle.ms_ground.specs.Fit.{Checked, fit_rule, sorted_step, narrow_step, is_fit, is_numeric, numeric_layer, number, truth, numbers, truths, checked, reach_of, fits, sums_fit}
-use Rattle.ms_ground.specs.declared.tree.Reach.{Reach}
-use Rattle.ms_ground.specs.declared.tree.Ground.{Ground, map-Ground, out-Ground, fold_out-Ground}
-use Rattle.ms_ground.specs.declared.tree.Ground.TheOpen.{Ground-F}
-use Rattle.ms_ground.proofs.Bools.{ap2}
-use Rattle.ms_ground.proofs.Layers.{fit_out, layer_map, twice}
+use Rattle.ms_trees.specs.Fit.{Checked, fit_rule, sorted_step, narrow_step, is_fit, is_numeric, numeric_layer, number, truth, numbers, truths, checked, reach_of, fits, sums_fit}
+use Rattle.ms_trees.specs.declared.tree.Reach.{Reach}
+use Rattle.ms_trees.specs.declared.tree.Ground.{Ground, map-Ground, out-Ground, fold_out-Ground}
+use Rattle.ms_trees.specs.declared.tree.Ground.TheOpen.{Ground-F}
+use Rattle.ms_trees.proofs.Bools.{ap2}
+use Rattle.ms_trees.proofs.Layers.{fit_out, layer_map, twice}
 
 -- ---- a node by its layer
 

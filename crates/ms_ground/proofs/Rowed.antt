@@ -4,15 +4,15 @@ use Rattle.std.specs.Prelude.{ℤ, pos}
 use Rattle.std.proofs.Math.ListN.{length-map}
 use Rattle.ms_num.specs.Numbers.{int_eq}
 use Rattle.ms_num.specs.Span.{Span, has}
-use Rattle.ms_ground.specs.Value as v
-use Rattle.ms_ground.specs.Value.{Meaning, value}
-use Rattle.ms_ground.specs.Reach as r
-use Rattle.ms_ground.specs.Reach.{reach, points}
-use Rattle.ms_ground.specs.Fit.{number, numbers, checked}
-use Rattle.ms_ground.specs.declared.tree.Reach.{Reach}
-use Rattle.ms_ground.specs.declared.tree.Ground.{Ground}
-use Rattle.ms_ground.proofs.Bools.{ap2, and_right}
-use Rattle.ms_ground.proofs.Fits.{drop_here, read_default}
+use Rattle.ms_trees.specs.Value as v
+use Rattle.ms_trees.specs.Value.{Meaning, value}
+use Rattle.ms_trees.specs.Reach as r
+use Rattle.ms_trees.specs.Reach.{reach, points}
+use Rattle.ms_trees.specs.Fit.{number, numbers, checked}
+use Rattle.ms_trees.specs.declared.tree.Reach.{Reach}
+use Rattle.ms_trees.specs.declared.tree.Ground.{Ground}
+use Rattle.ms_trees.proofs.Bools.{ap2, and_right}
+use Rattle.ms_tree_laws.proofs.Fits.{drop_here, read_default}
 
 none : (b : Bool) → (b && false) ≡ false
 none true = refl

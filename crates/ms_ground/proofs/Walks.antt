@@ -5,16 +5,18 @@ use Rattle.std.proofs.Math.ListN.{length-map}
 use Rattle.std.specs.Prelude.{ℤ, pos, ◌+ℤ◌, ◌/◌, nat_lt, is_some, if◌then◌else◌}
 use Rattle.ms_num.specs.Numbers.{int_eq}
 use Rattle.ms_num.specs.Span.{is_within}
-use Rattle.ms_ground.specs.Value as v
-use Rattle.ms_ground.specs.Value.{Meaning, value, how_many}
-use Rattle.ms_ground.specs.Extreme.{so_far, onward}
-use Rattle.ms_ground.specs.Reach.{points}
-use Rattle.ms_ground.specs.Fit.{is_fit, is_numeric, number, numbers, checked, IsWithin, IsNumber}
-use Rattle.ms_ground.specs.declared.tree.Ground.{Ground}
-use Rattle.ms_ground.specs.declared.tree.Ground.TheVariants as g
-use Rattle.ms_ground.specs.declared.tree.Ground.TheFolds.{the_lemmas}
-use Rattle.ms_ground.proofs.Bools.{and_left, and_right, and_true, of_le}
-use Rattle.ms_ground.proofs.Fits.{value_within, drop_here, read_default}
+use Rattle.ms_trees.specs.Value as v
+use Rattle.ms_trees.specs.Value.{Meaning, value, how_many}
+use Rattle.ms_spans.specs.Extreme.{so_far}
+use Rattle.ms_ground.proofs.Onward.{onward}
+use Rattle.ms_trees.specs.Reach.{points}
+use Rattle.ms_trees.specs.Fit.{is_fit, is_numeric, number, numbers, checked, IsWithin}
+use Rattle.ms_tree_laws.proofs.Parts.{IsNumber}
+use Rattle.ms_trees.specs.declared.tree.Ground.{Ground}
+use Rattle.ms_trees.specs.declared.tree.Ground.TheVariants as g
+use Rattle.ms_trees.specs.declared.tree.Ground.TheFolds.{the_lemmas}
+use Rattle.ms_trees.proofs.Bools.{and_left, and_right, and_true, of_le}
+use Rattle.ms_tree_laws.proofs.Fits.{value_within, drop_here, read_default}
 
 pub within_test : (z : ℤ) → IsWithin z → is_within z ≡ true
 within_test z h = and_true _ _ (of_le _ _ h.low) (of_le _ _ h.high)

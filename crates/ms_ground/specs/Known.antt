@@ -1,10 +1,10 @@
 -- Parts of which it is known whether they may be asked.
 use Rattle.std.specs.Prelude.{List, Option, Some, None, Bool, true, false, not, ◌&&◌}
-use Rattle.ms_ground.specs.Reach.{numeric, boolean, reach}
-use Rattle.ms_ground.specs.Fit.{is_fit, is_numeric}
+use Rattle.ms_trees.specs.Reach.{numeric, boolean, reach}
+use Rattle.ms_trees.specs.Fit.{is_fit, is_numeric}
 use Rattle.ms_num.specs.Span.{Span}
-use Rattle.ms_ground.specs.declared.tree.Reach.{Reach}
-use Rattle.ms_ground.specs.declared.tree.Ground.{Ground}
+use Rattle.ms_trees.specs.declared.tree.Reach.{Reach}
+use Rattle.ms_trees.specs.declared.tree.Ground.{Ground}
 
 abbrev pub known : Bool → Reach → Option Reach
 known true q = Some q

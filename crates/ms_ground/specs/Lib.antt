@@ -1,9 +1,1 @@
-pub mod Value
-pub mod Size
-pub mod Reach
-pub mod Fit
-pub mod Laws
-pub mod Access
-pub mod Extreme
-pub mod Room
 pub mod Known

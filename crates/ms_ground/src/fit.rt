@@ -1,21 +1,21 @@
 ghost use Rattle.std.specs.Prelude.{◌≡◌, IsTrue, Some, pos, map, length, ◌&&◌, not};
 ghost use Rattle.ms_num.specs.Span.{point as single};
-ghost use Rattle.ms_ground.specs.Reach.{reach, extreme, joined, counted, is_reached, is_reached2};
-ghost use Rattle.ms_ground.specs.Fit.{is_fit as is_fit_of, is_numeric, numbers, truths, sums_fit, fits, checked};
-ghost use Rattle.ms_ground.specs.Access.{reaches as reached_by};
-ghost use Rattle.ms_ground.specs.Extreme.{extreme_span as operation_of};
+ghost use Rattle.ms_trees.specs.Reach.{reach, extreme, joined, counted, is_reached, is_reached2};
+ghost use Rattle.ms_trees.specs.Fit.{is_fit as is_fit_of, is_numeric, numbers, truths, sums_fit, fits, checked};
+ghost use Rattle.ms_spans.specs.Access.{reaches as reached_by};
+ghost use Rattle.ms_spans.specs.Extreme.{extreme_span as operation_of};
 ghost use Rattle.ms_ground.specs.Known.{number_on, truth_on, passes, both_pass};
 
-use crate::access::Access;
-use crate::extreme::Extreme;
 use crate::narrow::{
     all_are_known, are_known, bit_is_fit, choice_is_fit, count_is_narrow, difference_is_fit,
     is_known, is_narrow, magnitude_is_fit, negation_is_fit, number_is_narrow, product_is_fit,
     quotient_is_fit, remainder_is_fit, sum_is_fit, sums_are_narrow, variable_is_fit,
 };
 use crate::reaching::{extreme_on, numbers_on, selected_on, truths_on};
-use crate::tree::{Ground, Reach};
 use ms_num::Iv;
+use ms_spans::access::Access;
+use ms_spans::extreme::Extreme;
+use ms_trees::{Ground, Reach};
 
 /// Whether the tree may be asked on the box of these intervals: its parts are of the right sorts, its variables
 /// are those of the box, those of a `BVar` have no numbers but 0 and 1, and no interval of a node, nor of a sum on

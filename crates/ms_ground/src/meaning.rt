@@ -2,21 +2,20 @@ ghost use Rattle.std.specs.Prelude.{◌≡◌, ◌<◌, IsTrue, IfSome, Some, po
 ghost use Rattle.std.specs.List.{list_any};
 ghost use Rattle.ms_num.specs.Numbers.{add_at};
 ghost use Rattle.ms_num.specs.Span.{point as single};
-ghost use Rattle.ms_ground.specs.Value.{value, folded, extreme, selected, counted, all_true, any_true, first_differs, are_distinct, is_row};
-ghost use Rattle.ms_ground.specs.Reach.{reach, points};
-ghost use Rattle.ms_ground.specs.Access.{reaches as reached_by};
-ghost use Rattle.ms_ground.specs.Extreme.{extreme_at as operation_of};
-ghost use Rattle.ms_ground.specs.Fit.{is_fit, numbers, truths, sums_fit, checked, IsWithin};
+ghost use Rattle.ms_trees.specs.Value.{value, folded, extreme, selected, counted, all_true, any_true, first_differs, are_distinct, is_row};
+ghost use Rattle.ms_trees.specs.Reach.{reach, points};
+ghost use Rattle.ms_spans.specs.Access.{reaches as reached_by};
+ghost use Rattle.ms_spans.specs.Extreme.{extreme_at as operation_of};
+ghost use Rattle.ms_trees.specs.Fit.{is_fit, numbers, truths, sums_fit, checked, IsWithin};
 
-use crate::access::{Access, reaches};
-use crate::extreme::Extreme;
-use crate::numbers::{
+use ms_num::Iv;
+use ms_spans::access::{Access, reaches};
+use ms_spans::extreme::Extreme;
+use ms_spans::numbers::{
     are_equal, differ, difference, is_entry, magnitude, negated, one_if_same, pair, product,
     quotient, remainder, sum,
 };
-use crate::table::Row;
-use crate::tree::Ground;
-use ms_num::Iv;
+use ms_trees::{Ground, Row};
 
 /// The number of an integer tree on the point, unless it is undefined there.
 #[cycle(meaning)]

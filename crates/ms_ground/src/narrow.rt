@@ -1,14 +1,14 @@
 ghost use Rattle.std.specs.Prelude.{◌≡◌, ◌&&◌, ◌||◌, IsTrue, Some, None, not, true, is_some, map, option_map, int_le, pos, if◌then◌else◌};
 ghost use Rattle.ms_num.specs.Span.{is_narrow as is_narrow_of, point, add_span, sub_span, mul_span, div_span, mod_span, neg_span, abs_span};
-ghost use Rattle.ms_ground.specs.Reach.{reach, both, both_some, span_at, either_number, all_some, counts};
-ghost use Rattle.ms_ground.specs.Fit.{fits, has_variable, numbers, sums_fit, checked};
+ghost use Rattle.ms_trees.specs.Reach.{reach, both, both_some, span_at, either_number, all_some, counts};
+ghost use Rattle.ms_trees.specs.Fit.{fits, has_variable, numbers, sums_fit, checked};
 ghost use Rattle.ms_ground.specs.Known.{passes, both_pass, all_pass};
 
-use crate::numbers::one_if;
 use crate::reaching::numbers_on;
-use crate::spans::{either, magnitude, meets, negated, quotient, remainder};
-use crate::tree::{Ground, Reach};
 use ms_num::{Iv, LIMIT};
+use ms_spans::numbers::one_if;
+use ms_spans::spans::{either, magnitude, meets, negated, quotient, remainder};
+use ms_trees::{Ground, Reach};
 
 // The greatest number that a count may be.
 const MOST: usize = 1 << 50;

@@ -1,24 +1,23 @@
 ghost use Rattle.std.specs.Prelude.{◌≡◌, ◌<◌, IsTrue, Some, pos, map, ◌||◌, ◌&&◌, not, IfSome, length, drop};
 ghost use Rattle.std.specs.List.{list_any};
 ghost use Rattle.ms_num.specs.Span.{IsInterval, add_span, point as single};
-ghost use Rattle.ms_ground.specs.Reach.{reach, hull_of, folded, any_undefined, all_yes, any_no, any_yes, all_no, extreme, selected, counted, all_some, some_meet, has_room, room_from, have_room, some_several, may_be_row, test, numeric as numeric_of, boolean as boolean_of};
-ghost use Rattle.ms_ground.specs.Access.{reaches as reached_by};
-ghost use Rattle.ms_ground.specs.Extreme.{extreme_span as operation_of};
-ghost use Rattle.ms_ground.specs.Fit.{is_fit, numbers, truths, sums_fit, checked};
-ghost use Rattle.ms_ground.specs.Room.{first_meets};
+ghost use Rattle.ms_trees.specs.Reach.{reach, hull_of, folded, any_undefined, all_yes, any_no, any_yes, all_no, extreme, selected, counted, all_some, some_meet, has_room, room_from, have_room, some_several, may_be_row, test, numeric as numeric_of, boolean as boolean_of};
+ghost use Rattle.ms_spans.specs.Access.{reaches as reached_by};
+ghost use Rattle.ms_spans.specs.Extreme.{extreme_span as operation_of};
+ghost use Rattle.ms_trees.specs.Fit.{is_fit, numbers, truths, sums_fit, checked};
+ghost use Rattle.ms_spans.specs.Room.{first_meets};
 
-use crate::access::{Access, misses, misses_grid, reaches};
-use crate::extreme::Extreme;
-use crate::numbers::one_if;
-use crate::room::{admits, between, has_many, is_unsure, lies_in};
-use crate::spans::{
+use ms_num::Iv;
+use ms_spans::access::{Access, misses, misses_grid, reaches};
+use ms_spans::extreme::Extreme;
+use ms_spans::numbers::one_if;
+use ms_spans::room::{admits, between, has_many, is_unsure, lies_in};
+use ms_spans::spans::{
     are_one, at_most, bits, boolean, difference, either, either_of_truths, equal, equivalence,
     exclusive, gather, implication, less, magnitude, meets, membership, negated, numeric, product,
     quotient, remainder, sum, tabled, unequal,
 };
-use crate::table::Row;
-use crate::tree::{Ground, Hull, Reach};
-use ms_num::Iv;
+use ms_trees::{Ground, Hull, Reach, Row};
 
 /// What the tree may mean on the box of these intervals.
 pub fn hull(g: &Ground, sets: &[Iv]) -> Hull

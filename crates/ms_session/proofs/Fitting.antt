@@ -4,10 +4,10 @@ use Rattle.std.specs.Prelude.{ℤ, pos, ◌≤ℤ◌, All, Any, slice_index_or}
 use Rattle.std.proofs.lemmas.Bool.{false≢true}
 use Rattle.ms_num.specs.Span.{Has, Inside}
 use Rattle.ms_num.proofs.Spans.{of_le}
-use Rattle.ms_ground.specs.declared.tree.Ground.{Ground}
-use Rattle.ms_ground.specs.Reach.{span_at}
-use Rattle.ms_ground.specs.Fit.{IsTruth}
-use Rattle.ms_ground.specs.Laws.{LiesIn, Refuted, RefutedMeansUnmet, SmallerBoxesFit}
+use Rattle.ms_trees.specs.declared.tree.Ground.{Ground}
+use Rattle.ms_trees.specs.Reach.{span_at}
+use Rattle.ms_trees.specs.Fit.{IsTruth}
+use Rattle.ms_tree_laws.specs.Laws.{LiesIn, Refuted, RefutedMeansUnmet, SmallerBoxesFit}
 use Rattle.ms_session.specs.Sets.{Set, IsSet, Among}
 use Rattle.ms_session.specs.Boxes.{Assignment, Box, Each, InBox, IsBox, span_of, spans_of, declared_span, declared_spans}
 use Rattle.ms_session.specs.Scopes.{Holds, HoldsNone, IsConstraint}

@@ -1,7 +1,7 @@
 -- What holds of `next`, by its nodes.
 use Rattle.std.proofs.Common.{◌≡◌, ◌≢◌, ◌⊎◌, inl, inr, ℕ, ◌+◌, ◌≤◌, zero, suc, refl, sym, ap, ◌∙◌, subst, arith, rules, List, [], ◌∷◌, length, Option, Some, None}
 use Rattle.std.specs.Prelude.{if◌then◌else◌, ◌==◌, slice_get, option_map}
-use Rattle.ms_ground.specs.declared.branching.Branching.{Branching}
+use Rattle.ms_trees.specs.declared.branching.Branching.{Branching}
 use Rattle.ms_session.specs.declared.budget.Frame.{Frame}
 use Rattle.ms_session.specs.declared.session.Step.{Step}
 use Rattle.ms_session.specs.declared.session.Step.TheVariants.{Found, NoneLeft, Spent}

@@ -3,9 +3,9 @@ use Rattle.std.proofs.Common.{◌≡◌, ◌⊎◌, inl, inr, ℕ, ◌+◌, ◌<
 use Rattle.std.specs.Prelude.{ℤ, pos, ◌+ℤ◌, ◌-ℤ◌, ◌<ℤ◌, nat_le, option_map}
 use Rattle.std.proofs.lemmas.Int.{ints}
 use Rattle.std.proofs.lemmas.Bool.{leb-true, leb-false}
-use Rattle.ms_ground.specs.declared.branching.Branching.{Branching}
-use Rattle.ms_ground.specs.declared.branching.ValueChoice.{ValueChoice}
-use Rattle.ms_ground.specs.declared.branching.ValueChoice.TheVariants.{Least}
+use Rattle.ms_trees.specs.declared.branching.Branching.{Branching}
+use Rattle.ms_trees.specs.declared.branching.ValueChoice.{ValueChoice}
+use Rattle.ms_trees.specs.declared.branching.ValueChoice.TheVariants.{Least}
 use Rattle.ms_session.specs.Sets.{Set, IsSet, set_size, count_from, width}
 use Rattle.ms_session.specs.Boxes.{Assignment, Box, InBox, IsBox, set_at, number_at}
 use Rattle.ms_session.specs.Branchings.{is_open, first_open, smaller, smallest_open, named_open, places, with_least, named_or, pick, IsOrdered, compared, Before}

@@ -5,12 +5,12 @@ use Rattle.std.proofs.lemmas.Bool.{false≢true}
 use Rattle.std.proofs.lemmas.List.{get_or-map, map-set, map-append, take_more}
 use Rattle.std.proofs.Math.ListN.{length-map}
 use Rattle.ms_num.specs.Span.{Span}
-use Rattle.ms_ground.specs.declared.branching.ValueChoice.{ValueChoice}
+use Rattle.ms_trees.specs.declared.branching.ValueChoice.{ValueChoice}
 use Rattle.ms_session.specs.Sets.{Set, IsSet, IsCut, set_of, nothing, lowest}
 use Rattle.ms_session.specs.Boxes.{Box, set_at, span_of, spans_of}
 use Rattle.ms_session.specs.Branchings.{is_open, is_tried, is_left, pick}
-use Rattle.ms_ground.specs.declared.tree.Ground.{Ground}
-use Rattle.ms_ground.specs.declared.branching.Branching.{Branching}
+use Rattle.ms_trees.specs.declared.tree.Ground.{Ground}
+use Rattle.ms_trees.specs.declared.branching.Branching.{Branching}
 use Rattle.ms_session.specs.Scopes.{NoneRefuted}
 use Rattle.ms_session.specs.Plain.{box_of, lows, IsProper, Halves, Cuts}
 use Rattle.ms_session.proofs.Sizes.{open_ends}

@@ -8,7 +8,7 @@ use Rattle.ms_num.specs.Span.{Span, IsInterval, has}
 use Rattle.ms_num.specs.Numbers.{int_eq}
 use Rattle.ms_num.specs.Ranges.{RisesPast, IsRanges, is_member}
 use Rattle.ms_num.proofs.Members.{lo_member, hi_member, rest_member, past_all, is_lowest, has_from, same_tests}
-use Rattle.ms_ground.specs.declared.branching.ValueChoice.TheVariants.{Least, Greatest, LowerHalf}
+use Rattle.ms_trees.specs.declared.branching.ValueChoice.TheVariants.{Least, Greatest, LowerHalf}
 use Rattle.ms_session.specs.Sets.{Set, IsSet, IsCut, set_of, lowest, highest}
 use Rattle.ms_session.specs.Sets.{IsMiddle}
 use Rattle.ms_session.proofs.Counts.{IsNat, nat_of}

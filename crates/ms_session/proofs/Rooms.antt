@@ -1,6 +1,6 @@
 -- The nodes that are spent in a scope are those that its outermost frame loses.
 use Rattle.std.proofs.Common.{◌≡◌, ◌+◌, ◌<◌, ◌≤◌, refl, sym, subst, arith, List, [], ◌∷◌, length, None}
-use Rattle.ms_ground.specs.declared.branching.Branching.{Branching}
+use Rattle.ms_trees.specs.declared.branching.Branching.{Branching}
 use Rattle.ms_session.specs.declared.budget.Frame.{Frame}
 use Rattle.ms_session.specs.declared.session.Step.{Step}
 use Rattle.ms_session.specs.Frames.{empty_frame, spend_one, outer_left}

@@ -3,24 +3,24 @@ use Rattle.std.proofs.Common.{◌≡◌, ℕ, ◌<◌, zero, suc, refl, sym, ap,
 use Rattle.std.specs.Prelude.{ℤ, pos, ◌≤ℤ◌, IfOk, OnOk}
 use Rattle.std.proofs.lemmas.Int.{ints}
 use Rattle.ms_num.specs.Span.{Span, Inside, point, is_narrow, add_span, mul_span, mod_span}
-use Rattle.ms_ground.specs.declared.tree.Reach.{Reach}
-use Rattle.ms_ground.specs.declared.tree.Ground.{Ground, map-Ground, out-Ground, fold_out-Ground}
-use Rattle.ms_ground.specs.declared.tree.Ground.TheVariants as g
-use Rattle.ms_ground.specs.declared.tree.Ground.TheOpen as F
-use Rattle.ms_ground.specs.Reach.{reach, reach_step, span_at, operation, division}
-use Rattle.ms_ground.specs.Reach as r
-use Rattle.ms_ground.specs.Fit.{Checked, checked, fit_rule, is_fit, is_numeric, numeric_layer, number, has_variable, fits, IsTruth}
-use Rattle.ms_ground.proofs.Layers.{fit_out}
-use Rattle.ms_ground.proofs.Bools.{and_true, and_left}
-use Rattle.ms_ground.specs.Laws.{Smaller, HasVariable, SmallerBoxesFit}
-use Rattle.ms_ground.specs.Reach.{points}
+use Rattle.ms_trees.specs.declared.tree.Reach.{Reach}
+use Rattle.ms_trees.specs.declared.tree.Ground.{Ground, map-Ground, out-Ground, fold_out-Ground}
+use Rattle.ms_trees.specs.declared.tree.Ground.TheVariants as g
+use Rattle.ms_trees.specs.declared.tree.Ground.TheOpen as F
+use Rattle.ms_trees.specs.Reach.{reach, reach_step, span_at, operation, division}
+use Rattle.ms_trees.specs.Reach as r
+use Rattle.ms_trees.specs.Fit.{Checked, checked, fit_rule, is_fit, is_numeric, numeric_layer, number, has_variable, fits, IsTruth}
+use Rattle.ms_trees.proofs.Layers.{fit_out}
+use Rattle.ms_trees.proofs.Bools.{and_true, and_left}
+use Rattle.ms_tree_laws.specs.Laws.{Smaller, HasVariable, SmallerBoxesFit}
+use Rattle.ms_trees.specs.Reach.{points}
 use Rattle.ms_num.specs.Span.{has}
 use Rattle.ms_num.specs.Ranges.{IsRanges, is_member}
 use Rattle.ms_num.proofs.Members.{has_from}
 use Rattle.ms_num.proofs.Spans.{of_le, read_51}
 use Rattle.std.proofs.Common.{w64, to_z, of_z, ◌||◌}
 use Rattle.std.specs.declared.alloc.AllocError.{AllocError}
-use Rattle.ms_ground.specs.declared.branching.Branching.{Branching}
+use Rattle.ms_trees.specs.declared.branching.Branching.{Branching}
 use Rattle.ms_session.specs.Stored.{Stored, seen_of}
 use Rattle.std.specs.Int.Signed.{≤ℤ_refl}
 use Rattle.std.specs.Prelude.{if◌then◌else◌}

@@ -4,8 +4,8 @@ use Rattle.std.specs.Prelude.{All}
 use Rattle.std.proofs.lemmas.Bool.{false≢true}
 use Rattle.std.proofs.lemmas.List.{append_assoc, get_or_append_left, length-append}
 use Rattle.std.proofs.lemmas.List.Elements.{All-append}
-use Rattle.ms_ground.specs.declared.tree.Ground.{Ground}
-use Rattle.ms_ground.specs.declared.branching.Branching.{Branching}
+use Rattle.ms_trees.specs.declared.tree.Ground.{Ground}
+use Rattle.ms_trees.specs.declared.branching.Branching.{Branching}
 use Rattle.ms_session.specs.declared.budget.Frame.{Frame}
 use Rattle.ms_session.specs.declared.session.Step.{Step}
 use Rattle.ms_session.specs.Sets.{Set, IsSet, Among, set_size}

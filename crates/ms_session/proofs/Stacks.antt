@@ -6,8 +6,8 @@ use Rattle.std.proofs.lemmas.List.Elements.{All-push, All-pop, All-nil}
 use Rattle.std.proofs.Math.ListN.{length-map}
 use Rattle.std.specs.declared.alloc.AllocError.{AllocError}
 use Rattle.ms_num.specs.Span.{Span}
-use Rattle.ms_ground.specs.declared.tree.Ground.{Ground}
-use Rattle.ms_ground.specs.declared.branching.Branching.{Branching}
+use Rattle.ms_trees.specs.declared.tree.Ground.{Ground}
+use Rattle.ms_trees.specs.declared.branching.Branching.{Branching}
 use Rattle.ms_session.specs.declared.taking.Taken.{Taken}
 use Rattle.ms_session.specs.declared.taking.Taken.TheVariants.{Dropped, Answered, Split}
 use Rattle.ms_session.specs.declared.scope.PlainScope.{PlainScope}

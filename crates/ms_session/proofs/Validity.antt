@@ -4,8 +4,8 @@ use Rattle.std.specs.Prelude.{ℤ, int_le, ◌≤ℤ◌, ◌<ℤ◌, slice_set}
 use Rattle.std.proofs.lemmas.Int.{ints}
 use Rattle.std.proofs.Math.Nat.{mul-le-mul_left, mul-le-mul_right}
 use Rattle.ms_num.specs.Numbers.{int_eq}
-use Rattle.ms_ground.specs.declared.tree.Ground.{Ground}
-use Rattle.ms_ground.specs.declared.branching.Branching.{Branching}
+use Rattle.ms_trees.specs.declared.tree.Ground.{Ground}
+use Rattle.ms_trees.specs.declared.branching.Branching.{Branching}
 use Rattle.ms_session.specs.Sets.{set_size}
 use Rattle.ms_session.specs.Boxes.{Each, IsGiven, InSome, Assignment, Box, InBox, IsBox, Within, Disjoint, box_size, set_at, number_at}
 use Rattle.ms_session.specs.Branchings.{Picks, is_tried, is_left, IsOrdered, compared, Before}

@@ -4,11 +4,11 @@ use Rattle.std.specs.Prelude.{All, Any, MatchBool}
 use Rattle.std.proofs.lemmas.List.{take_all}
 use Rattle.std.proofs.lemmas.List.Elements.{All-more}
 use Rattle.ms_num.specs.Span.{Span}
-use Rattle.ms_ground.specs.declared.tree.Ground.{Ground}
-use Rattle.ms_ground.specs.declared.tree.Reach.{Reach}
-use Rattle.ms_ground.specs.Reach.{hull_at}
-use Rattle.ms_ground.specs.Fit.{IsTruth}
-use Rattle.ms_ground.specs.Laws.{Refuted, RefutedMeansUnmet}
+use Rattle.ms_trees.specs.declared.tree.Ground.{Ground}
+use Rattle.ms_trees.specs.declared.tree.Reach.{Reach}
+use Rattle.ms_trees.specs.Reach.{hull_at}
+use Rattle.ms_trees.specs.Fit.{IsTruth}
+use Rattle.ms_tree_laws.specs.Laws.{Refuted, RefutedMeansUnmet}
 use Rattle.ms_session.specs.Boxes.{Box, spans_of}
 use Rattle.ms_session.specs.Scopes.{HoldsNone, NoneRefuted}
 use Rattle.ms_session.specs.Plain.{box_of, IsProper, MayBeTrue}

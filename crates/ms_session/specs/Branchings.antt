@@ -1,9 +1,9 @@
 -- Which variable of a box is split, which values are tried first, and the order of assignments that comes of it.
 use Rattle.std.specs.Prelude.{◌≡◌, ◌⊎◌, ℕ, zero, suc, List, [], ◌∷◌, ◌++◌, length, Option, Some, None, option_map, Bool, false, not, if◌then◌else◌, nat_le, ℤ, ◌+ℤ◌, ◌<ℤ◌, int_le, slice_set}
 use Rattle.ms_num.specs.Numbers.{int_eq}
-use Rattle.ms_ground.specs.declared.branching.Branching.{Branching}
-use Rattle.ms_ground.specs.declared.branching.ValueChoice.{ValueChoice}
-use Rattle.ms_ground.specs.declared.branching.ValueChoice.TheVariants.{Least, Greatest, LowerHalf}
+use Rattle.ms_trees.specs.declared.branching.Branching.{Branching}
+use Rattle.ms_trees.specs.declared.branching.ValueChoice.{ValueChoice}
+use Rattle.ms_trees.specs.declared.branching.ValueChoice.TheVariants.{Least, Greatest, LowerHalf}
 use Rattle.ms_session.specs.Sets.{Set, IsCut, set_size}
 use Rattle.ms_session.specs.Boxes.{Assignment, Box, number_at, set_at}
 

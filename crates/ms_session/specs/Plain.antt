@@ -1,10 +1,10 @@
 -- Boxes as lists of ranges, and what one node makes of such a box.
 use Rattle.std.specs.Prelude.{◌≡◌, ℕ, ◌≤◌, true, nat_le, slice_set, Option, Some, None, if◌then◌else◌, List, [], ◌∷◌, map}
 use Rattle.ms_num.specs.Span.{Span}
-use Rattle.ms_ground.specs.declared.tree.Ground.{Ground}
-use Rattle.ms_ground.specs.Reach.{reach}
-use Rattle.ms_ground.specs.declared.branching.Branching.{Branching}
-use Rattle.ms_ground.specs.declared.branching.ValueChoice.{ValueChoice}
+use Rattle.ms_trees.specs.declared.tree.Ground.{Ground}
+use Rattle.ms_trees.specs.Reach.{reach}
+use Rattle.ms_trees.specs.declared.branching.Branching.{Branching}
+use Rattle.ms_trees.specs.declared.branching.ValueChoice.{ValueChoice}
 use Rattle.ms_session.specs.declared.taking.Taken.{Taken}
 use Rattle.ms_session.specs.declared.taking.Taken.TheVariants.{Dropped, Answered, Split}
 use Rattle.ms_session.specs.Sets.{Set, IsSet, IsCut, set_of, set_size}

@@ -1,8 +1,8 @@
 -- The small models by which sessions are tried.
 use Rattle.std.specs.Prelude.{◌≡◌, List, [], ◌∷◌, pos}
 use Rattle.ms_num.specs.Span.{Span}
-use Rattle.ms_ground.specs.declared.tree.Ground.{Ground}
-use Rattle.ms_ground.specs.Fit.{IsTruth}
+use Rattle.ms_trees.specs.declared.tree.Ground.{Ground}
+use Rattle.ms_trees.specs.Fit.{IsTruth}
 use Rattle.ms_session.specs.declared.budget.Frame.{Frame}
 use Rattle.ms_session.specs.Scopes.{Seen, IsConstraint}
 use Rattle.ms_session.specs.Laws.{AllHaveRoom}

@@ -1,11 +1,11 @@
 -- Scopes: what one node does, `next` as nodes that follow each other, entering and leaving.
 use Rattle.std.specs.Prelude.{◌≡◌, ℕ, ◌+◌, ◌^◌, ◌<◌, ◌≤◌, Bool, true, false, List, [], ◌∷◌, ◌++◌, Option, Some, None, All, sum_by}
-use Rattle.ms_ground.specs.declared.tree.Ground.{Ground}
-use Rattle.ms_ground.specs.Value.{value}
-use Rattle.ms_ground.specs.Reach.{reach}
-use Rattle.ms_ground.specs.Fit.{IsTruth}
-use Rattle.ms_ground.specs.Size.{size_of}
-use Rattle.ms_ground.specs.declared.branching.Branching.{Branching}
+use Rattle.ms_trees.specs.declared.tree.Ground.{Ground}
+use Rattle.ms_trees.specs.Value.{value}
+use Rattle.ms_trees.specs.Reach.{reach}
+use Rattle.ms_trees.specs.Fit.{IsTruth}
+use Rattle.ms_trees.specs.Size.{size_of}
+use Rattle.ms_trees.specs.declared.branching.Branching.{Branching}
 use Rattle.ms_session.specs.declared.budget.Frame.{Frame}
 use Rattle.ms_session.specs.declared.session.Step.{Step}
 use Rattle.ms_session.specs.declared.session.Step.TheVariants.{Found, NoneLeft, Spent}

@@ -1,8 +1,8 @@
 -- Scopes as the plain session stores them: the boxes as lists of ranges, the first one last.
 use Rattle.std.specs.Prelude.{◌≡◌, ℕ, ◌+◌, ◌≤◌, Bool, false, List, [], ◌∷◌, ◌++◌, map, reverse, length, Option, Some, None, All}
 use Rattle.ms_num.specs.Span.{Span}
-use Rattle.ms_ground.specs.declared.tree.Ground.{Ground}
-use Rattle.ms_ground.specs.declared.branching.Branching.{Branching}
+use Rattle.ms_trees.specs.declared.tree.Ground.{Ground}
+use Rattle.ms_trees.specs.declared.branching.Branching.{Branching}
 use Rattle.ms_session.specs.declared.taking.Taken.{Taken}
 use Rattle.ms_session.specs.declared.taking.Taken.TheVariants.{Dropped, Answered, Split}
 use Rattle.ms_session.specs.declared.scope.PlainScope.{PlainScope}

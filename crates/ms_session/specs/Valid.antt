@@ -1,7 +1,7 @@
 -- What holds of every session while each call answers Ok, and of each of its scopes.
 use Rattle.std.specs.Prelude.{◌≡◌, ◌⊎◌, ◌+◌, ◌*◌, ◌≤◌, true, false, ℤ, List, [], ◌∷◌, ◌++◌, length, All}
-use Rattle.ms_ground.specs.declared.tree.Ground.{Ground}
-use Rattle.ms_ground.specs.declared.branching.Branching.{Branching}
+use Rattle.ms_trees.specs.declared.tree.Ground.{Ground}
+use Rattle.ms_trees.specs.declared.branching.Branching.{Branching}
 use Rattle.ms_session.specs.Sets.{Set, IsSet}
 use Rattle.ms_session.specs.Boxes.{Each, EachPair, IsGiven, Assignment, Box, InBox, InSome, IsBox, Disjoint, box_size, frontier_nodes}
 use Rattle.ms_session.specs.Branchings.{IsOrdered, Before, compared}

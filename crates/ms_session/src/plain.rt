@@ -23,7 +23,7 @@ pub struct PlainSession {
 
 impl Model for PlainSession {
     ghost use Rattle.std.specs.Coded.{codes};
-    ghost use Rattle.ms_ground.specs.contracts.tree.Ground as tree;
+    ghost use Rattle.ms_trees.specs.contracts.tree.Ground as tree;
     ghost use Rattle.ms_session.specs.Stored.{Stored};
 
     ghost Value = { Stored };

@@ -1,5 +1,5 @@
 ghost use Rattle.std.specs.Prelude.{◌≡◌, ◌≤◌, ◌<◌, ◌+◌, length, false, IfOk, OnOk, OnErr, option_map};
-ghost use Rattle.ms_ground.specs.Size.{size_of};
+ghost use Rattle.ms_trees.specs.Size.{size_of};
 ghost use Rattle.ms_session.specs.Scopes.{Seen, last_of, live_nodes, IsConstraint, Enters, Leaves, posted, Steps, Breaks, HasRoom, Loses};
 
 use crate::budget::Budget;

@@ -24,7 +24,7 @@ pub struct PlainScopes {
 impl Model for PlainScopes {
     ghost use Rattle.std.specs.Prelude.{map, reverse};
     ghost use Rattle.std.specs.Coded.{codes};
-    ghost use Rattle.ms_ground.specs.contracts.tree.Ground as tree;
+    ghost use Rattle.ms_trees.specs.contracts.tree.Ground as tree;
     ghost use Rattle.ms_session.specs.Plain.{box_of};
     ghost use Rattle.ms_session.specs.Stored.{Stored, stored_of, AreSound};
 
@@ -39,7 +39,7 @@ impl Model for PlainScopes {
 
 impl PlainScopes {
     ghost use Rattle.std.specs.Prelude.{◌≡◌, ◌≢◌, ◌≤◌, ◌<◌, ◌+◌, ◌^◌, [], length, All, IfOk, OnOk, OnErr, IsErr, true, option_map};
-    ghost use Rattle.ms_ground.specs.Size.{size_of};
+    ghost use Rattle.ms_trees.specs.Size.{size_of};
     ghost use Rattle.ms_session.specs.Scopes.{IsConstraint, IsOpening, NodeGives, Enters, Leaves, Breaks, posted, live_nodes, last_of};
     ghost use Rattle.ms_session.specs.Valid.{IsValidSession};
     ghost use Rattle.ms_session.specs.Plain.{box_of};

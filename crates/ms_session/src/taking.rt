@@ -1,7 +1,7 @@
 ghost use Rattle.std.specs.Prelude.{◌≡◌, ◌↔◌, ◌<◌, true, All, Any, IsTrue, IfOk, MatchBool, MatchOption, length};
-ghost use Rattle.ms_ground.specs.Fit.{IsTruth};
-ghost use Rattle.ms_ground.specs.Laws.{Refuted};
-ghost use Rattle.ms_ground.specs.Reach.{points};
+ghost use Rattle.ms_trees.specs.Fit.{IsTruth};
+ghost use Rattle.ms_tree_laws.specs.Laws.{Refuted};
+ghost use Rattle.ms_trees.specs.Reach.{points};
 ghost use Rattle.ms_session.specs.Boxes.{spans_of, box_size};
 ghost use Rattle.ms_session.specs.Branchings.{is_open as open_in};
 ghost use Rattle.ms_session.specs.Scopes.{Meets, HoldsNone, IsOnly, NoneRefuted};

@@ -1,8 +1,8 @@
 //! Sessions as a caller drives them: scopes by a table of calls, and the answers of small models beside those that
 //! enumeration finds.
 ghost use Rattle.std.specs.Prelude.{◌≡◌, ◌<◌, ◌^◌, ◌≤ℤ◌, pos, List, All, IfOk, OnOk};
-ghost use Rattle.ms_ground.specs.declared.tree.Ground.{Ground};
-ghost use Rattle.ms_ground.specs.Fit.{IsTruth};
+ghost use Rattle.ms_trees.specs.declared.tree.Ground.{Ground};
+ghost use Rattle.ms_trees.specs.Fit.{IsTruth};
 ghost use Rattle.ms_session.specs.declared.budget.Frame.{Frame};
 ghost use Rattle.ms_session.specs.Frames.{outer_left};
 ghost use Rattle.ms_session.specs.Scopes.{IsConstraint};

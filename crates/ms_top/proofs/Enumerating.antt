@@ -6,9 +6,9 @@ use Rattle.std.specs.List.{list_all}
 use Rattle.std.proofs.lemmas.Int.{ints}
 use Rattle.std.proofs.lemmas.List.{append-nil, take_all, take_more_set, take-set, take-take}
 use Rattle.std.proofs.Math.ListN.{set}
-use Rattle.ms_ground.specs.Reach.{points}
-use Rattle.ms_ground.specs.Fit.{is_fit}
-use Rattle.ms_ground.specs.declared.tree.Ground.{Ground}
+use Rattle.ms_trees.specs.Reach.{points}
+use Rattle.ms_trees.specs.Fit.{is_fit}
+use Rattle.ms_trees.specs.declared.tree.Ground.{Ground}
 use Rattle.ms_top.specs.declared.domain.Domain.{Domain}
 use Rattle.ms_top.specs.Solution.{Within, Precedes, meets}
 use Rattle.ms_top.specs.Search.{FitBehind, LeastBehind, NoneBehind}

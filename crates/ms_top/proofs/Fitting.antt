@@ -7,15 +7,15 @@ use Rattle.std.proofs.lemmas.Int.{ints}
 use Rattle.std.proofs.lemmas.Bool.Decides.{nat_tests}
 use Rattle.std.proofs.lemmas.List.Quantifiers.{position-Some}
 use Rattle.ms_num.specs.Span.{Span, point, is_narrow, add_span}
-use Rattle.ms_ground.specs.declared.tree.Reach.{Reach}
-use Rattle.ms_ground.specs.declared.tree.Ground.{Ground, map-Ground, out-Ground, fold_out-Ground}
-use Rattle.ms_ground.specs.declared.tree.Ground.TheVariants as g
-use Rattle.ms_ground.specs.declared.tree.Ground.TheOpen as F
-use Rattle.ms_ground.specs.Reach.{reach, reach_step, points, span_at}
-use Rattle.ms_ground.specs.Reach as r
-use Rattle.ms_ground.specs.Fit.{Checked, checked, fit_rule, is_fit, is_numeric, numeric_layer, number, has_variable, fits}
-use Rattle.ms_ground.proofs.Layers.{fit_out}
-use Rattle.ms_ground.proofs.Bools.{and_left, and_right}
+use Rattle.ms_trees.specs.declared.tree.Reach.{Reach}
+use Rattle.ms_trees.specs.declared.tree.Ground.{Ground, map-Ground, out-Ground, fold_out-Ground}
+use Rattle.ms_trees.specs.declared.tree.Ground.TheVariants as g
+use Rattle.ms_trees.specs.declared.tree.Ground.TheOpen as F
+use Rattle.ms_trees.specs.Reach.{reach, reach_step, points, span_at}
+use Rattle.ms_trees.specs.Reach as r
+use Rattle.ms_trees.specs.Fit.{Checked, checked, fit_rule, is_fit, is_numeric, numeric_layer, number, has_variable, fits}
+use Rattle.ms_trees.proofs.Layers.{fit_out}
+use Rattle.ms_trees.proofs.Bools.{and_left, and_right}
 use Rattle.ms_top.specs.declared.plain.Number.{Number}
 use Rattle.ms_top.specs.declared.plain.PlainDeclaration.{PlainDeclaration}
 use Rattle.ms_top.specs.declared.plain.Term.{Term}

@@ -1,9 +1,9 @@
 -- The solutions that begin with given numbers.
 use Rattle.std.specs.Prelude.{◌≡◌, List, ◌++◌, ◌⊎◌, true, ℤ}
 use Rattle.std.specs.List.{list_all}
-use Rattle.ms_ground.specs.declared.tree.Ground.{Ground}
-use Rattle.ms_ground.specs.Reach.{points}
-use Rattle.ms_ground.specs.Fit.{is_fit}
+use Rattle.ms_trees.specs.declared.tree.Ground.{Ground}
+use Rattle.ms_trees.specs.Reach.{points}
+use Rattle.ms_trees.specs.Fit.{is_fit}
 use Rattle.ms_top.specs.declared.domain.Domain.{Domain}
 use Rattle.ms_top.specs.Solution.{Within, Precedes, meets}
 

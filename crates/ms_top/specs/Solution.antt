@@ -1,9 +1,9 @@
 -- What a model of the plain form means: its ground trees, its solutions, and the least of them.
 use Rattle.std.specs.Prelude.{◌≡◌, ℕ, zero, suc, List, [], ◌∷◌, map, fold, unwrap_or, ◌⊎◌, Bool, if◌then◌else◌, IsTrue, ℤ, pos, negsuc, ◌≤ℤ◌, ◌<ℤ◌}
 use Rattle.std.specs.List.{list_all}
-use Rattle.ms_ground.specs.declared.tree.Ground.{Ground}
-use Rattle.ms_ground.specs.declared.tree.Ground.TheVariants as g
-use Rattle.ms_ground.specs.Value.{value}
+use Rattle.ms_trees.specs.declared.tree.Ground.{Ground}
+use Rattle.ms_trees.specs.declared.tree.Ground.TheVariants as g
+use Rattle.ms_trees.specs.Value.{value}
 use Rattle.ms_top.specs.declared.plain.Number.{Number}
 use Rattle.ms_top.specs.declared.plain.PlainDeclaration.{PlainDeclaration}
 use Rattle.ms_top.specs.declared.plain.Term.{Term}

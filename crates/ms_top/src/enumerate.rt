@@ -2,8 +2,8 @@
 
 ghost use Rattle.std.specs.Prelude.{◌≡◌, ◌+◌, ◌≤◌, ◌∷◌, List, IsTrue, length, take, true, false};
 ghost use Rattle.std.specs.List.{list_all};
-ghost use Rattle.ms_ground.specs.Reach.{points};
-ghost use Rattle.ms_ground.specs.Fit.{is_fit};
+ghost use Rattle.ms_trees.specs.Reach.{points};
+ghost use Rattle.ms_trees.specs.Fit.{is_fit};
 ghost use Rattle.ms_top.specs.Search.{FitBehind, LeastBehind, NoneBehind};
 ghost use Rattle.ms_top.specs.Solution.{meets};
 

@@ -3,12 +3,12 @@ use Rattle.std.specs.Prelude.{option_map, int_le}
 use Rattle.std.proofs.lemmas.Int.{to_z-of_z}
 use Rattle.std.proofs.Math.ListN.{length-map}
 use Rattle.ms_num.specs.Span.{add_span, sub_span, mul_span, div_span, mod_span, neg_span, abs_span}
-use Rattle.ms_ground.specs.Reach as r
-use Rattle.ms_ground.specs.Reach.{reach, span_at}
-use Rattle.ms_ground.specs.Fit.{number, truth, numbers, truths, checked, fits, has_variable}
-use Rattle.ms_ground.specs.declared.tree.Ground.TheVariants as g
-use Rattle.ms_ground.specs.declared.tree.Ground.TheOpen as F
-use Rattle.ms_ground.proofs.Bools.{and_one}
+use Rattle.ms_trees.specs.Reach as r
+use Rattle.ms_trees.specs.Reach.{reach, span_at}
+use Rattle.ms_trees.specs.Fit.{number, truth, numbers, truths, checked, fits, has_variable}
+use Rattle.ms_trees.specs.declared.tree.Ground.TheVariants as g
+use Rattle.ms_trees.specs.declared.tree.Ground.TheOpen as F
+use Rattle.ms_trees.proofs.Bools.{and_one}
 use Rattle.ms_ground.proofs.Known.{number_is, truth_is, one_number, one_truth, two_numbers, two_truths, number_choice, truth_choice, list_then_part, list_then_parts, bits_fit}
 use Rattle.ms_ground.proofs.fit.+fit.Goals as goal
 

@@ -1,5 +1,5 @@
 use Rattle.std.proofs.Common.{◌≡◌, map, drop}
-use Rattle.ms_ground.specs.Fit.{numbers, truths, checked}
+use Rattle.ms_trees.specs.Fit.{numbers, truths, checked}
 use Rattle.ms_ground.proofs.fit.+fit.Given as goal
 
 abbrev pub invariant-all_numbers-loop-part : goal.invariant-all_numbers-loop-part

@@ -6,14 +6,14 @@ use Rattle.ms_num.specs.Numbers.{int_eq}
 use Rattle.std.proofs.Math.ListN.{length-map}
 use Rattle.ms_num.specs.Span.{point}
 use Rattle.std.specs.List.{list_any, list_all}
-use Rattle.ms_ground.specs.Value.{Meaning, value, selected, is_place, compare, int_ne, how_many, all_defined, are_distinct, is_row}
-use Rattle.ms_ground.specs.Reach.{points}
-use Rattle.ms_ground.specs.Extreme.{extreme_at}
-use Rattle.ms_ground.specs.Access.{reaches}
-use Rattle.ms_ground.specs.declared.tree.Ground.TheFolds.{the_lemmas}
-use Rattle.ms_ground.proofs.Fits.{fit-Abs, fit-Add, fit-AllDiff, fit-And, fit-BVar, fit-Count, fit-Div, fit-Elem, fit-Elem2, fit-Eq, fit-Greatest, fit-Iff, fit-Imp, fit-In, fit-IteB, fit-IteI, fit-Le, fit-Least, fit-Lt, fit-Mod, fit-Mul, fit-Ne, fit-Neg, fit-Not, fit-Or, fit-Sub, fit-Sum, fit-Table, fit-ToInt, fit-Var, fit-Xor, fit-sums, within-Add, within-Sub, within-Mul, drop_here, sums_on, sum_none, holds_on}
+use Rattle.ms_trees.specs.Value.{Meaning, value, selected, is_place, compare, int_ne, how_many, all_defined, are_distinct, is_row}
+use Rattle.ms_trees.specs.Reach.{points}
+use Rattle.ms_spans.specs.Extreme.{extreme_at}
+use Rattle.ms_spans.specs.Access.{reaches}
+use Rattle.ms_trees.specs.declared.tree.Ground.TheFolds.{the_lemmas}
+use Rattle.ms_tree_laws.proofs.Fits.{fit-Abs, fit-Add, fit-AllDiff, fit-And, fit-BVar, fit-Count, fit-Div, fit-Elem, fit-Elem2, fit-Eq, fit-Greatest, fit-Iff, fit-Imp, fit-In, fit-IteB, fit-IteI, fit-Le, fit-Least, fit-Lt, fit-Mod, fit-Mul, fit-Ne, fit-Neg, fit-Not, fit-Or, fit-Sub, fit-Sum, fit-Table, fit-ToInt, fit-Var, fit-Xor, fit-sums, within-Add, within-Sub, within-Mul, drop_here, sums_on, sum_none, holds_on}
 use Rattle.ms_ground.proofs.Walks.{within_test, number_within, first_of_pair, onward_one, onward_none, onward_number, numbers_on, counted_one, not_counted, all_counted, unselected, unselected2, elem_value, elem2_value, second_of_pair, next_place, at_most_one, count_within, count_fits}
-use Rattle.ms_ground.proofs.Bools.{ap2}
+use Rattle.ms_trees.proofs.Bools.{ap2}
 use Rattle.ms_ground.proofs.Distinct.{distinct_on, first_part, pass_on}
 use Rattle.ms_ground.proofs.Rowed.{no_row, row_at, entry_here}
 use Rattle.ms_ground.proofs.meaning.+meaning.Goals as goal

@@ -2,11 +2,12 @@ use Rattle.std.proofs.Common.{◌≡◌, ◌+◌, ◌≤◌, true, Some, map, dr
 use Rattle.ms_num.specs.Numbers.{add_at, int_eq}
 use Rattle.ms_num.specs.Span.{point}
 use Rattle.std.specs.List.{list_any, list_all}
-use Rattle.ms_ground.specs.Value.{Meaning, value, folded, extreme, selected, all_defined, how_many, compare, int_ne, all_true, any_true, first_differs, are_distinct, is_row}
-use Rattle.ms_ground.specs.Reach.{reach, points}
-use Rattle.ms_ground.specs.Access.{reaches}
-use Rattle.ms_ground.specs.Extreme.{extreme_at, onward}
-use Rattle.ms_ground.specs.Fit.{numbers, truths, sums_fit, checked}
+use Rattle.ms_trees.specs.Value.{Meaning, value, folded, extreme, selected, all_defined, how_many, compare, int_ne, all_true, any_true, first_differs, are_distinct, is_row}
+use Rattle.ms_trees.specs.Reach.{reach, points}
+use Rattle.ms_spans.specs.Access.{reaches}
+use Rattle.ms_spans.specs.Extreme.{extreme_at}
+use Rattle.ms_ground.proofs.Onward.{onward}
+use Rattle.ms_trees.specs.Fit.{numbers, truths, sums_fit, checked}
 use Rattle.ms_ground.proofs.meaning.+meaning.Given as goal
 
 abbrev pub invariant-sum_at-loop-part : goal.invariant-sum_at-loop-part

@@ -1,8 +1,8 @@
 use Rattle.std.proofs.Common.{◌≡◌, ◌+◌, ◌≤◌, true, map, drop}
-use Rattle.ms_ground.specs.Value.{how_many}
-use Rattle.ms_ground.specs.Reach.{reach, all_some, compare, meets}
-use Rattle.ms_ground.specs.Fit.{numbers, checked}
-use Rattle.ms_ground.specs.declared.tree.Reach.{Reach}
+use Rattle.ms_trees.specs.Value.{how_many}
+use Rattle.ms_trees.specs.Reach.{reach, all_some, compare, meets}
+use Rattle.ms_trees.specs.Fit.{numbers, checked}
+use Rattle.ms_trees.specs.declared.tree.Reach.{Reach}
 use Rattle.ms_ground.proofs.narrow.count_is_narrow.Given as goal
 
 abbrev pub invariant-loop-part : goal.invariant-loop-part

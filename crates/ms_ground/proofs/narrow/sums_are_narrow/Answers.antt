@@ -1,9 +1,9 @@
 use Rattle.std.proofs.Common.{◌+◌, map, drop, arith, sym, ◌∙◌}
 use Rattle.ms_num.specs.Span.{add_span}
-use Rattle.ms_ground.specs.Reach as r
-use Rattle.ms_ground.specs.Reach.{reach}
-use Rattle.ms_ground.specs.Fit.{sums_fit}
-use Rattle.ms_ground.proofs.Fits.{drop_here}
+use Rattle.ms_trees.specs.Reach as r
+use Rattle.ms_trees.specs.Reach.{reach}
+use Rattle.ms_trees.specs.Fit.{sums_fit}
+use Rattle.ms_tree_laws.proofs.Fits.{drop_here}
 use Rattle.ms_ground.proofs.Boxes.{parts_on}
 use Rattle.ms_ground.proofs.Known.{sums_next, sum_stays}
 use Rattle.ms_ground.proofs.narrow.sums_are_narrow.Goals as goal

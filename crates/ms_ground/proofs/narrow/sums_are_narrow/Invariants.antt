@@ -1,7 +1,7 @@
 use Rattle.std.proofs.Common.{◌≡◌, true, Some, map, drop, pos}
 use Rattle.ms_num.specs.Span.{point}
-use Rattle.ms_ground.specs.Reach.{reach}
-use Rattle.ms_ground.specs.Fit.{numbers, sums_fit, checked}
+use Rattle.ms_trees.specs.Reach.{reach}
+use Rattle.ms_trees.specs.Fit.{numbers, sums_fit, checked}
 use Rattle.ms_ground.proofs.narrow.sums_are_narrow.Given as goal
 
 abbrev pub invariant-loop-part : goal.invariant-loop-part

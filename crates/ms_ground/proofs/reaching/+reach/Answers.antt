@@ -3,18 +3,19 @@ use Rattle.std.specs.Prelude.{pos, is_some, if◌then◌else◌}
 use Rattle.std.proofs.lemmas.Int.{to_z-of_z}
 use Rattle.std.proofs.lemmas.List.{drop_all}
 use Rattle.ms_num.specs.Span.{point, has, join_some}
-use Rattle.ms_ground.specs.Reach as r
-use Rattle.ms_ground.specs.Reach.{reach}
-use Rattle.ms_ground.specs.Access.{reaches}
-use Rattle.ms_ground.specs.Extreme.{extreme_span, onward_on}
-use Rattle.ms_ground.specs.Room.{lies_in}
-use Rattle.ms_ground.specs.declared.tree.Reach.{Reach}
-use Rattle.ms_ground.specs.declared.tree.Ground.TheFolds.{the_lemmas}
-use Rattle.ms_ground.proofs.Bools.{ap2, or_none}
-use Rattle.ms_ground.proofs.Fits.{fit-Abs, fit-Add, fit-AllDiff, fit-And, fit-BVar, fit-Count, fit-Div, fit-Elem, fit-Elem2, fit-Eq, fit-Greatest, fit-Iff, fit-Imp, fit-In, fit-IteB, fit-IteI, fit-Le, fit-Least, fit-Lt, fit-Mod, fit-Mul, fit-Ne, fit-Neg, fit-Not, fit-Or, fit-Sub, fit-Sum, fit-Table, fit-ToInt, fit-Var, fit-Xor, fit-sums, fits-Num, fits-Add, fits-Sub, fits-Mul, drop_here, spans_on, truths_on, read_default}
+use Rattle.ms_trees.specs.Reach as r
+use Rattle.ms_trees.specs.Reach.{reach}
+use Rattle.ms_spans.specs.Access.{reaches}
+use Rattle.ms_spans.specs.Extreme.{extreme_span}
+use Rattle.ms_ground.proofs.Onward.{onward_on}
+use Rattle.ms_spans.specs.Room.{lies_in}
+use Rattle.ms_trees.specs.declared.tree.Reach.{Reach}
+use Rattle.ms_trees.specs.declared.tree.Ground.TheFolds.{the_lemmas}
+use Rattle.ms_trees.proofs.Bools.{ap2, or_none}
+use Rattle.ms_tree_laws.proofs.Fits.{fit-Abs, fit-Add, fit-AllDiff, fit-And, fit-BVar, fit-Count, fit-Div, fit-Elem, fit-Elem2, fit-Eq, fit-Greatest, fit-Iff, fit-Imp, fit-In, fit-IteB, fit-IteI, fit-Le, fit-Least, fit-Lt, fit-Mod, fit-Mul, fit-Ne, fit-Neg, fit-Not, fit-Or, fit-Sub, fit-Sum, fit-Table, fit-ToInt, fit-Var, fit-Xor, fit-sums, fits-Num, fits-Add, fits-Sub, fits-Mul, drop_here, spans_on, truths_on, read_default}
 use Rattle.ms_ground.proofs.Walks.{counted_one, at_most_one}
 use Rattle.ms_ground.proofs.Boxes.{PlaceOn, parts_on, onward_end, join_end, place_taken, place_passed, elem_reach, elem2_reach, count_interval}
-use Rattle.ms_ground.proofs.Smaller.{truth_some}
+use Rattle.ms_tree_laws.proofs.Smaller.{truth_some}
 use Rattle.ms_ground.proofs.Distinct.{spans_over, meets_on, between_room, wide_room}
 use Rattle.ms_ground.proofs.Rowed.{no_row_on, row_on, entry_here}
 use Rattle.ms_ground.proofs.reaching.+reach.Goals as goal

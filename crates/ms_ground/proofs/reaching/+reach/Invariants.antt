@@ -1,14 +1,15 @@
 use Rattle.std.proofs.Common.{◌≡◌, ◌+◌, ◌≤◌, true, not, ◌&&◌, ◌||◌, Some, map, drop}
 use Rattle.std.specs.Prelude.{pos}
 use Rattle.ms_num.specs.Span.{add_span, point, join_some}
-use Rattle.ms_ground.specs.Value.{how_many}
+use Rattle.ms_trees.specs.Value.{how_many}
 use Rattle.std.specs.List.{list_any, list_all}
-use Rattle.ms_ground.specs.Room.{first_meets}
-use Rattle.ms_ground.specs.Reach.{reach, folded, any_undefined, all_yes, any_no, any_yes, all_no, all_some, extreme, joined, reached_undefined, compare, same_single, meets, has_room, room_from, held, some_meet, some_several, may_be_row}
-use Rattle.ms_ground.specs.Access.{reaches}
-use Rattle.ms_ground.specs.Extreme.{extreme_span, onward_on}
-use Rattle.ms_ground.specs.Fit.{numbers, truths, sums_fit, checked}
-use Rattle.ms_ground.specs.declared.tree.Reach.{Reach}
+use Rattle.ms_spans.specs.Room.{first_meets}
+use Rattle.ms_trees.specs.Reach.{reach, folded, any_undefined, all_yes, any_no, any_yes, all_no, all_some, extreme, joined, reached_undefined, compare, same_single, meets, has_room, room_from, held, some_meet, some_several, may_be_row}
+use Rattle.ms_spans.specs.Access.{reaches}
+use Rattle.ms_spans.specs.Extreme.{extreme_span}
+use Rattle.ms_ground.proofs.Onward.{onward_on}
+use Rattle.ms_trees.specs.Fit.{numbers, truths, sums_fit, checked}
+use Rattle.ms_trees.specs.declared.tree.Reach.{Reach}
 use Rattle.ms_ground.proofs.reaching.+reach.Given as goal
 
 abbrev pub invariant-sum_on-loop-part : goal.invariant-sum_on-loop-part

@@ -1,5 +1,5 @@
 use Rattle.std.proofs.Common.{ap, ◌∙◌, subst}
-use Rattle.ms_ground.specs.declared.branching.ValueChoice.TheVariants.{Least, Greatest, LowerHalf}
+use Rattle.ms_trees.specs.declared.branching.ValueChoice.TheVariants.{Least, Greatest, LowerHalf}
 use Rattle.ms_session.specs.Sets.{IsCut, IsMiddle, set_of}
 use Rattle.ms_session.specs.Branchings.{is_left}
 use Rattle.ms_session.proofs.RangeSets.{if_both, read_after, read_lo, read_hi, left_least, left_greatest, left_half}

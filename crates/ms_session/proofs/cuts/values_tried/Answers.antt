@@ -1,5 +1,5 @@
 use Rattle.std.proofs.Common.{ap, ◌∙◌, subst}
-use Rattle.ms_ground.specs.declared.branching.ValueChoice.TheVariants.{Least, Greatest, LowerHalf}
+use Rattle.ms_trees.specs.declared.branching.ValueChoice.TheVariants.{Least, Greatest, LowerHalf}
 use Rattle.ms_session.specs.Sets.{IsCut, IsMiddle, set_of}
 use Rattle.ms_session.specs.Branchings.{is_tried}
 use Rattle.ms_session.proofs.RangeSets.{if_both, read_middle, read_lo, read_hi, tried_least, tried_greatest, tried_half}

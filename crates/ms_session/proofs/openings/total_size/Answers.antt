@@ -1,6 +1,6 @@
 use Rattle.std.proofs.Common.{◌≡◌, ◌+◌, ◌∙◌, ap, arith, take}
 use Rattle.std.proofs.lemmas.List.{take_all}
-use Rattle.ms_ground.specs.Size.{size_of}
+use Rattle.ms_trees.specs.Size.{size_of}
 use Rattle.ms_session.specs.Scopes.{live_nodes}
 use Rattle.ms_session.proofs.Beginnings.{sum_one_more, sum_within}
 use Rattle.ms_session.proofs.openings.total_size.Goals as goal

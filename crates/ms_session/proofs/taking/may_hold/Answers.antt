@@ -1,7 +1,7 @@
 use Rattle.std.proofs.Common.{arith, sym, ◌∙◌, ap}
 use Rattle.ms_session.specs.Plain.{MayBeTrue}
 use Rattle.ms_session.proofs.Walks.{passed_more, passed_all, not_false, hull_yes}
-use Rattle.ms_ground.specs.Reach.{reach}
+use Rattle.ms_trees.specs.Reach.{reach}
 use Rattle.ms_session.proofs.taking.may_hold.Goals as goal
 
 pub loop-constraint-preserved : goal.loop-constraint-preserved

@@ -1,5 +1,5 @@
 use Rattle.std.proofs.Common.{subst, sym}
-use Rattle.ms_ground.specs.Fit.{IsTruth}
+use Rattle.ms_trees.specs.Fit.{IsTruth}
 use Rattle.ms_session.specs.Samples.{square}
 use Rattle.ms_session.proofs.Sampled.{square_read}
 use Rattle.ms_session.proofs.tests.all_hold.Goals as goal

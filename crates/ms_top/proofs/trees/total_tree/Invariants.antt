@@ -1,6 +1,6 @@
 use Rattle.std.proofs.Common.{◌≡◌, take}
 use Rattle.std.specs.Prelude.{fold}
-use Rattle.ms_ground.specs.declared.tree.Ground.TheVariants as g
+use Rattle.ms_trees.specs.declared.tree.Ground.TheVariants as g
 use Rattle.ms_top.specs.Solution.{term_tree}
 use Rattle.ms_top.proofs.trees.total_tree.Given as goal
 

@@ -1,6 +1,6 @@
 use Rattle.std.proofs.Common.{sym, subst, refl}
 use Rattle.std.specs.Prelude.{All, IfOk}
-use Rattle.ms_ground.specs.Fit.{IsTruth}
+use Rattle.ms_trees.specs.Fit.{IsTruth}
 use Rattle.ms_session.specs.Boxes.{spans_of}
 use Rattle.ms_session.specs.Scopes.{NodeGives}
 use Rattle.ms_session.specs.Plain.{box_of, Takes}

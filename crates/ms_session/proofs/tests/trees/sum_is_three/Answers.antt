@@ -1,5 +1,5 @@
 use Rattle.std.specs.Prelude.{pos}
-use Rattle.ms_ground.specs.declared.tree.Ground.TheVariants as g
+use Rattle.ms_trees.specs.declared.tree.Ground.TheVariants as g
 use Rattle.ms_session.specs.Samples.{square}
 use Rattle.ms_session.proofs.Sampled.{if_ok_is, truth_of, family_six}
 use Rattle.ms_session.proofs.tests.trees.sum_is_three.Goals as goal

@@ -1,0 +1,16 @@
+pub mod Points
+pub mod Lists
+pub mod Places
+pub mod Apart
+pub mod Divisions
+pub mod Exact
+pub mod Fits
+pub mod Operations
+pub mod Comparisons
+pub mod Counts
+pub mod Choices
+pub mod Memberships
+pub mod Smaller
+pub mod Refutes
+pub mod Outside
+pub mod Parts

@@ -1,0 +1,97 @@
+-- The laws of what a tree may mean.
+use Rattle.std.specs.Prelude.{◌≡◌, ℕ, ◌<◌, List, Option, Some, None, Bool, true, false, not, ◌||◌, is_some, length, slice_index_or, ℤ, pos, ◌≤ℤ◌, ◌↔◌}
+use Rattle.ms_num.specs.Span.{Span, Has, Inside, point}
+use Rattle.ms_num.specs.Ranges.{is_member, IsRanges}
+use Rattle.ms_trees.specs.Value.{Meaning, value}
+use Rattle.ms_trees.specs.Reach as r
+use Rattle.ms_trees.specs.Reach.{reach, points, span_at, may_be_in, is_inside}
+use Rattle.ms_trees.specs.Fit.{is_fit, is_numeric}
+use Rattle.ms_trees.specs.declared.tree.Reach.{Reach}
+use Rattle.ms_trees.specs.declared.tree.Ground.{Ground}
+
+-- a variable of the box
+pub record HasVariable (b : List Span) (v : ℕ) : Type 0 where
+  pub within : v < length b
+  pub proper : (span_at b v).lo ≤ℤ (span_at b v).hi
+
+-- an interval within another; none is within each
+abbrev pub Fewer : Option Span → Option Span → Type 0
+Fewer None o = Unit {0}
+Fewer (Some s) None = ⊥
+Fewer (Some s) (Some t) = Inside s t
+
+-- what an integer tree may mean
+pub record Numbers (s l : Reach) : Type 0 where
+  pub some : (is_some s.numbers || s.undefined) ≡ true
+  pub numbers : Fewer s.numbers l.numbers
+  pub undefined : s.undefined ≡ true → l.undefined ≡ true
+
+-- what a Boolean tree may mean, which is something
+pub record Truths (s l : Reach) : Type 0 where
+  pub some : (s.yes || s.no) ≡ true
+  pub yes : s.yes ≡ true → l.yes ≡ true
+  pub no : s.no ≡ true → l.no ≡ true
+
+abbrev pub Less : Bool → Reach → Reach → Type 0
+Less true s l = Numbers s l
+Less false s l = Truths s l
+
+-- each interval of the box b lies within that of the box b', where that has a number
+pub record Smaller (b b' : List Span) : Type 0 where
+  pub inside : (v : ℕ) → HasVariable b' v → Inside (span_at b v) (span_at b' v)
+
+abbrev pub of_number : Option ℤ → Reach
+of_number None = r.numeric None true
+of_number (Some z) = r.numeric (Some (point z)) false
+
+-- what a tree may mean where it means just this
+abbrev pub exact : Bool → Meaning → Reach
+exact true m = of_number m.number
+exact false m = r.boolean m.truth (not m.truth)
+
+-- on a smaller box a tree may mean less
+abbrev pub SmallerBoxesMeanLess : Type 0
+SmallerBoxesMeanLess = (b b' : List Span) → Smaller b b' → (g : Ground) → is_fit b' g ≡ true → Less (is_numeric g) (reach b g) (reach b' g)
+
+-- on a box of one assignment it may mean just what it means there
+abbrev pub PointsMeanThemselves : Type 0
+PointsMeanThemselves = (a : List ℤ) (g : Ground) → is_fit (points a) g ≡ true → reach (points a) g ≡ exact (is_numeric g) (value a g)
+
+-- a tree that may be asked on a box may be asked on each smaller one
+abbrev pub SmallerBoxesFit : Type 0
+SmallerBoxesFit = (b b' : List Span) → length b ≡ length b' → Smaller b b' → (g : Ground) → is_fit b' g ≡ true → is_fit b g ≡ true
+
+-- the assignment lies in the box
+pub record LiesIn (a : List ℤ) (b : List Span) : Type 0 where
+  pub same_length : length a ≡ length b
+  pub within : (v : ℕ) → v < length b → Has (span_at b v) (slice_index_or a v (pos 0))
+
+-- the tree may not be true on the box
+abbrev pub Refuted : List Span → Ground → Type 0
+Refuted b g = (reach b g).yes ≡ false
+
+-- where a Boolean tree is refuted on a box, no assignment of the box meets it
+abbrev pub RefutedMeansUnmet : Type 0
+RefutedMeansUnmet = (b : List Span) (a : List ℤ) → LiesIn a b → (g : Ground) → is_fit b g ≡ true → is_numeric g ≡ false → Refuted b g → (value a g).truth ≡ false
+
+-- ---- an interval and the ranges of a set
+
+-- a number of the interval that is in one of the ranges
+pub record HasShared (rs : List Span) (s : Span) : Type 0 where
+  pub number : ℤ
+  pub within : Has s number
+  pub member : is_member rs number ≡ true
+
+-- a number of the interval that is in none of the ranges
+pub record HasOutside (rs : List Span) (s : Span) : Type 0 where
+  pub number : ℤ
+  pub within : Has s number
+  pub outside : is_member rs number ≡ false
+
+-- a range meets the interval exactly where the interval has a number of the set
+abbrev pub SetsMeetWhereTheyShare : Type 0
+SetsMeetWhereTheyShare = (rs : List Span) → IsRanges rs → (s : Span) → s.lo ≤ℤ s.hi → (may_be_in rs s ≡ true) ↔ HasShared rs s
+
+-- the interval lies within no one range exactly where it has a number outside the set
+abbrev pub SetsHoldWhereNoneIsOutside : Type 0
+SetsHoldWhereNoneIsOutside = (rs : List Span) → IsRanges rs → (s : Span) → s.lo ≤ℤ s.hi → (is_inside rs s ≡ false) ↔ HasOutside rs s

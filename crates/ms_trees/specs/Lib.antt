@@ -1,0 +1,4 @@
+pub mod Value
+pub mod Reach
+pub mod Fit
+pub mod Size
