@@ -23,7 +23,7 @@ mod reaching;
 
 pub use fit::is_fit;
 pub use meaning::{holds, value_at};
-pub use ms_tree_laws::{keep_laws, membership_law};
+pub use ms_tree_laws::{keep_laws, membership_law, room_law};
 pub use ms_trees::{
     Branching, Ground, Hull, Order, Row, Rows, Trees, ValueChoice, copy_trees, nesting, size,
 };

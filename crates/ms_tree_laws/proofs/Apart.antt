@@ -11,7 +11,7 @@ use Rattle.ms_num.specs.Span.{Span, Inside, point}
 use Rattle.ms_trees.specs.Value as v
 use Rattle.ms_trees.specs.Value.{Meaning, how_many}
 use Rattle.ms_trees.specs.Reach as r
-use Rattle.ms_tree_laws.specs.Laws.{of_number, Fewer, Truths}
+use Rattle.ms_tree_laws.specs.Laws.{of_number, Fewer, Truths, IsProper, AreProper, EndsDecideRoom}
 use Rattle.ms_trees.specs.declared.tree.Reach.{Reach}
 use Rattle.ms_trees.proofs.Bools.{ap2, and_left, and_right, and_true, or_left, or_right, or_split, or_less, or_false, not_true, true_not, is_false, both_ways, same_tests, le_of, of_le, lt_of, of_lt, not_le, eq_of}
 use Rattle.ms_tree_laws.proofs.Points.{spans, all_defined, any_undefined}
@@ -53,14 +53,6 @@ more_pass p q e f (x ∷ xs) h =
 abbrev lies : ℤ → ℤ → Span → Bool
 lies lo hi s = int_le lo s.lo && int_le s.hi hi
 
-abbrev Proper : Option Span → Type 0
-Proper None = Unit {0}
-Proper (Some s) = s.lo ≤ℤ s.hi
-
-abbrev AllProper : List Reach → Type 0
-AllProper [] = Unit {0}
-AllProper (q ∷ rs) = Proper q.numbers × AllProper rs
-
 split_more : (b c d : Bool) (m n k : ℕ) → m ≤ n + k → (b ≡ true → (c || d) ≡ true) → (if b then suc m else m) ≤ (if c then suc n else n) + (if d then suc k else k)
 split_more true true true m n k h f = omega arith
 split_more true true false m n k h f = omega arith
@@ -101,7 +93,7 @@ split lo hi s (q ∷ rs) h =
     one (Some t) f e = aside lo hi s t f e
 
 -- of intervals that do not meet, a range holds no more than it has numbers
-few : (rs : List Reach) → AllProper rs → r.some_meet rs ≡ false → (lo hi : ℤ) → lo ≤ℤ (hi +ℤ pos 1) → pos (r.held lo hi rs) ≤ℤ (hi -ℤ lo +ℤ pos 1)
+few : (rs : List Reach) → AreProper rs → r.some_meet rs ≡ false → (lo hi : ℤ) → lo ≤ℤ (hi +ℤ pos 1) → pos (r.held lo hi rs) ≤ℤ (hi -ℤ lo +ℤ pos 1)
 few [] p h lo hi l = omega (arith, ints)
 few (q ∷ rs) p h lo hi l = one q.numbers p.0 (or_false (list_any (λ x. r.compare r.meets q.numbers x.numbers) rs) (r.some_meet rs) h).0 (few rs p.1 (or_false (list_any (λ x. r.compare r.meets q.numbers x.numbers) rs) (r.some_meet rs) h).1)
   where
@@ -116,7 +108,7 @@ few (q ∷ rs) p h lo hi l = one q.numbers p.0 (or_false (list_any (λ x. r.comp
         omega (arith, ints, k, x, y, a, b, o)
     counted s o d f false e = f lo hi l
 
-    one : (o : Option Span) → Proper o → list_any (λ x. r.compare r.meets o x.numbers) rs ≡ false → ((lo hi : ℤ) → lo ≤ℤ (hi +ℤ pos 1) → pos (r.held lo hi rs) ≤ℤ (hi -ℤ lo +ℤ pos 1)) →
+    one : (o : Option Span) → IsProper o → list_any (λ x. r.compare r.meets o x.numbers) rs ≡ false → ((lo hi : ℤ) → lo ≤ℤ (hi +ℤ pos 1) → pos (r.held lo hi rs) ≤ℤ (hi -ℤ lo +ℤ pos 1)) →
         pos (if r.test (lies lo hi) o then suc (r.held lo hi rs) else r.held lo hi rs) ≤ℤ (hi -ℤ lo +ℤ pos 1)
     one None k d f = f lo hi l
     one (Some s) k d f = counted s k d f (lies lo hi s) refl
@@ -138,16 +130,16 @@ all_room rs f = all_of _ rs (λ q. all_of _ rs (λ x. one q.numbers x.numbers))
     one (Some s) None = refl
     one (Some s) (Some t) = true_not (not (r.has_room s.lo t.hi rs)) (ap not (f s.lo t.hi))
 
-apart_room : (rs : List Reach) → AllProper rs → r.some_meet rs ≡ false → r.have_room rs ≡ true
+apart_room : (rs : List Reach) → AreProper rs → r.some_meet rs ≡ false → r.have_room rs ≡ true
 apart_room rs p h = all_room rs (λ lo hi. room_of lo hi rs (λ l. few rs p h lo hi (omega (arith, ints))))
 
 -- ---- each range of integers has room where those between ends have
 
-none_held : (rs : List Reach) → AllProper rs → (lo hi : ℤ) → hi <ℤ lo → r.held lo hi rs ≤ 0
+none_held : (rs : List Reach) → AreProper rs → (lo hi : ℤ) → hi <ℤ lo → r.held lo hi rs ≤ 0
 none_held [] p lo hi l = omega arith
 none_held (q ∷ rs) p lo hi l = one_more (r.test (lies lo hi) q.numbers) false (r.held lo hi rs) 0 (none_held rs p.1 lo hi l) (one q.numbers p.0)
   where
-    one : (o : Option Span) → Proper o → r.test (lies lo hi) o ≡ true → false ≡ true
+    one : (o : Option Span) → IsProper o → r.test (lies lo hi) o ≡ true → false ≡ true
     one None k e = e
     one (Some s) k e =
         let a = le_of lo s.lo (and_left (int_le lo s.lo) (int_le s.hi hi) e) in
@@ -203,7 +195,7 @@ between_ends lo hi rs h a b =
         twice true k = refl
         twice false k = k
 
-everywhere : (rs : List Reach) → AllProper rs → r.have_room rs ≡ true → (d : ℕ) (lo hi : ℤ) → (hi +ℤ pos 1) ≡ (lo +ℤ pos d) → pos (r.held lo hi rs) ≤ℤ pos d
+everywhere : (rs : List Reach) → AreProper rs → r.have_room rs ≡ true → (d : ℕ) (lo hi : ℤ) → (hi +ℤ pos 1) ≡ (lo +ℤ pos d) → pos (r.held lo hi rs) ≤ℤ pos d
 everywhere rs p h zero lo hi e = let k = none_held rs p lo hi (omega (arith, ints)) in omega (arith, ints, k)
 everywhere rs p h (suc d) lo hi e =
     both_ways (list_any (λ q. r.test (starts lo hi) q.numbers) rs)
@@ -213,21 +205,24 @@ everywhere rs p h (suc d) lo hi e =
     (λ f. let k = from_next lo hi rs f in let m = everywhere rs p h d (lo +ℤ pos 1) hi (omega (arith, ints)) in omega (arith, ints, k, m))
 
 -- where the ranges between ends have room, each range of integers has
-pub room_everywhere : (rs : List Reach) → AllProper rs → r.have_room rs ≡ true → (lo hi : ℤ) → lo ≤ℤ hi → pos (r.held lo hi rs) ≤ℤ (hi -ℤ lo +ℤ pos 1)
+pub room_everywhere : (rs : List Reach) → AreProper rs → r.have_room rs ≡ true → (lo hi : ℤ) → lo ≤ℤ hi → pos (r.held lo hi rs) ≤ℤ (hi -ℤ lo +ℤ pos 1)
 room_everywhere rs p h lo hi l =
     let d = nat_abs (hi -ℤ lo) + 1 in
     let e : pos d ≡ (hi -ℤ lo +ℤ pos 1) = omega (arith, ints) in
     let k = everywhere rs p h d lo hi (omega (arith, ints, e)) in
     omega (arith, ints, k, e)
 
+pub ends_decide : EndsDecideRoom
+ends_decide rs p = (λ h lo hi l. room_everywhere rs p h lo hi l, λ f. all_room rs (λ lo hi. room_of lo hi rs (f lo hi)))
+
 -- ---- smaller boxes
 
-proper_parts : (ss ls : List Reach) → AllLess ss ls → AllProper ss
+proper_parts : (ss ls : List Reach) → AllLess ss ls → AreProper ss
 proper_parts [] ls h = tt
 proper_parts (s ∷ ss) [] h = absurd h
 proper_parts (s ∷ ss) (l ∷ ls) h = (one s.numbers l.numbers h.0.numbers, proper_parts ss ls h.1)
   where
-    one : (o p : Option Span) → Fewer o p → Proper o
+    one : (o p : Option Span) → Fewer o p → IsProper o
     one None p f = tt
     one (Some s) None f = absurd f
     one (Some s) (Some t) f = f.proper
@@ -309,11 +304,11 @@ distinct_less ss ls h = record {
 
 -- ---- one assignment
 
-point_parts : (ms : List Meaning) → AllProper (spans ms)
+point_parts : (ms : List Meaning) → AreProper (spans ms)
 point_parts [] = tt
 point_parts (m ∷ ms) = (one m.number, point_parts ms)
   where
-    one : (o : Option ℤ) → Proper (of_number o).numbers
+    one : (o : Option ℤ) → IsProper (of_number o).numbers
     one None = tt
     one (Some x) = ≤ℤ_refl x
 

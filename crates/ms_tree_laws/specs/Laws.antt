@@ -1,10 +1,10 @@
 -- The laws of what a tree may mean.
-use Rattle.std.specs.Prelude.{◌≡◌, ℕ, ◌<◌, List, Option, Some, None, Bool, true, false, not, ◌||◌, is_some, length, slice_index_or, ℤ, pos, ◌≤ℤ◌, ◌↔◌}
+use Rattle.std.specs.Prelude.{◌≡◌, ℕ, ◌<◌, List, [], ◌∷◌, Option, Some, None, Bool, true, false, not, ◌||◌, is_some, length, slice_index_or, ℤ, pos, ◌+ℤ◌, ◌-ℤ◌, ◌≤ℤ◌, ◌↔◌}
 use Rattle.ms_num.specs.Span.{Span, Has, Inside, point}
 use Rattle.ms_num.specs.Ranges.{is_member, IsRanges}
 use Rattle.ms_trees.specs.Value.{Meaning, value}
 use Rattle.ms_trees.specs.Reach as r
-use Rattle.ms_trees.specs.Reach.{reach, points, span_at, may_be_in, is_inside}
+use Rattle.ms_trees.specs.Reach.{reach, points, span_at, may_be_in, is_inside, held, have_room}
 use Rattle.ms_trees.specs.Fit.{is_fit, is_numeric}
 use Rattle.ms_trees.specs.declared.tree.Reach.{Reach}
 use Rattle.ms_trees.specs.declared.tree.Ground.{Ground}
@@ -95,3 +95,18 @@ SetsMeetWhereTheyShare = (rs : List Span) → IsRanges rs → (s : Span) → s.l
 -- the interval lies within no one range exactly where it has a number outside the set
 abbrev pub SetsHoldWhereNoneIsOutside : Type 0
 SetsHoldWhereNoneIsOutside = (rs : List Span) → IsRanges rs → (s : Span) → s.lo ≤ℤ s.hi → (is_inside rs s ≡ false) ↔ HasOutside rs s
+
+-- ---- distinct parts
+
+abbrev pub IsProper : Option Span → Type 0
+IsProper None = Unit {0}
+IsProper (Some s) = s.lo ≤ℤ s.hi
+
+-- no interval of the parts is empty
+abbrev pub AreProper : List Reach → Type 0
+AreProper [] = Unit {0}
+AreProper (q ∷ rs) = IsProper q.numbers × AreProper rs
+
+-- the ranges between ends of parts have room exactly where no range of integers holds the intervals of more parts than it has numbers
+abbrev pub EndsDecideRoom : Type 0
+EndsDecideRoom = (rs : List Reach) → AreProper rs → (have_room rs ≡ true) ↔ ((lo hi : ℤ) → lo ≤ℤ hi → pos (held lo hi rs) ≤ℤ (hi -ℤ lo +ℤ pos 1))

@@ -1,4 +1,4 @@
-ghost use Rattle.ms_tree_laws.specs.Laws.{SmallerBoxesMeanLess, PointsMeanThemselves, SmallerBoxesFit, RefutedMeansUnmet, SetsMeetWhereTheyShare, SetsHoldWhereNoneIsOutside};
+ghost use Rattle.ms_tree_laws.specs.Laws.{SmallerBoxesMeanLess, PointsMeanThemselves, SmallerBoxesFit, RefutedMeansUnmet, SetsMeetWhereTheyShare, SetsHoldWhereNoneIsOutside, EndsDecideRoom};
 
 /// Does nothing: its contract has the laws of what a tree may mean.
 pub fn keep_laws()
@@ -12,4 +12,10 @@ pub fn keep_laws()
 pub fn membership_law()
     ensures shared { SetsMeetWhereTheyShare }
     ensures outside { SetsHoldWhereNoneIsOutside }
+{}
+
+/// Does nothing: its contract says that the ranges between ends, at which the meaning of distinct parts on a box
+/// looks, decide for all ranges of integers.
+pub fn room_law()
+    ensures { EndsDecideRoom }
 {}
