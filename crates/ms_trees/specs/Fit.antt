@@ -1,5 +1,5 @@
 -- Which trees may be asked on a box: those that are well sorted, name its variables alone, and are narrow there.
-use Rattle.std.specs.Prelude.{ℕ, List, [], ◌∷◌, Option, Some, None, Bool, true, false, not, ◌&&◌, ◌≡◌, ℤ, pos, negsuc, ◌≤ℤ◌, ◌^◌, ◌-◌, int_le, length, nat_lt, map}
+use Rattle.std.specs.Prelude.{ℕ, List, [], ◌∷◌, Option, Some, None, Bool, true, false, not, ◌&&◌, ◌≡◌, ℤ, pos, negsuc, ◌≤ℤ◌, ◌^◌, ◌-◌, int_le, length, nat_lt}
 use Rattle.ms_num.specs.Span.{Span, point, is_narrow, add_span}
 use Rattle.ms_trees.specs.Reach.{reach, reach_step, both, span_at}
 use Rattle.ms_trees.specs.declared.tree.Reach.{Reach}
