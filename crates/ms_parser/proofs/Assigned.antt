@@ -1,13 +1,12 @@
 -- Data is read as the grammar writes it, and what the outcome says.
-use Rattle.std.proofs.Common.{◌≡◌, ℕ, ◌-◌, ◌≤◌, suc, List, [], ◌∷◌, length, None, Bool, true, false, refl, sym, subst}
+use Rattle.std.proofs.Common.{◌≡◌, ℕ, List, [], ◌∷◌, length, None, Bool, true, false, refl, sym, subst}
 use Rattle.std.specs.Prelude.{not}
 use Rattle.ms_syntax.specs.declared.token.Token.{Token}
 use Rattle.ms_syntax.specs.declared.token.Symbol.TheVariants as s
 use Rattle.ms_syntax.specs.declared.token.Place.{Place}
 use Rattle.ms_syntax.specs.Tree.{Ex, Pairs}
-use Rattle.ms_syntax.specs.Grammar.{Tokens, ◌⋅◌, mark, Writes, WritesPair, WritesPairs, IsShallow, SyntaxAt, DeepAt}
-use Rattle.ms_parser.specs.Answers.{HasAnswer}
-use Rattle.ms_expressions.specs.Reading.{ok, bad, deep}
+use Rattle.ms_syntax.specs.Grammar.{Tokens, ◌⋅◌, mark, Writes, WritesPair, WritesPairs, IsShallow}
+use Rattle.ms_parser.specs.Answers.{HasAnswer, IsWithin, from_front}
 use Rattle.ms_syntax.specs.Kind.{is_symbol}
 use Rattle.ms_expressions.specs.Kinds.{when}
 use Rattle.ms_expressions.specs.Rules.{past_pair, items, assignment, assignments}
@@ -20,7 +19,13 @@ use Rattle.ms_parser.proofs.Enclosed.{e_any, nobody_fresh, IsName, binder_exact,
 use Rattle.ms_parser.proofs.Bases.{stop_all, symbol_of}
 use Rattle.ms_parser.proofs.Nested.{under_exact}
 use Rattle.ms_parser.proofs.Items.{all, items_exact}
+use Rattle.std.specs.Prelude.{Result}
+use Rattle.ms_syntax.specs.declared.tree.Assignments.{Assignments}
+use Rattle.ms_syntax.specs.Tree.{assignments_view}
+use Rattle.ms_expressions.specs.declared.fault.ParseFault.{ParseFault}
+use Rattle.ms_expressions.specs.Reads.{Reads}
 use Rattle.ms_parser.proofs.Law as law
+use Rattle.ms_parser.proofs.Answered as t
 
 not_beyond : (b : Bool) → when (not b) ≡ None → b ≡ true
 not_beyond true h = refl
@@ -47,40 +52,16 @@ pair_some x (z ∷ u, v, q, a, g) = cc
 exact : (n : ℕ) → Exact n 200 200 nobody all WritesPairs (items assignment)
 exact = items_exact 200 (either past_pair nobody) refl WritesPair pair_some assignment assignment_exact
 
-pub assignments_syntax : (ts : Tokens) (n : ℕ) → assignments ts ≡ bad n → SyntaxAt WritesPairs ts (length ts - n)
-unfolding assignments
-assignments_syntax = law.whole_syntax all WritesPairs (items assignment) exact
-
-pub assignments_deep : (ts : Tokens) (n : ℕ) → assignments ts ≡ deep n → DeepAt WritesPairs ts (length ts - n - 1)
-unfolding assignments
-assignments_deep = law.whole_deep all WritesPairs (items assignment) exact
-
-pub assignments_found : (ts : Tokens) (x : Pairs) → assignments ts ≡ ok x [] → WritesPairs x ts × IsShallow ts
-unfolding assignments
-assignments_found ts x = law.whole_found all WritesPairs (items assignment) exact ts x []
-
 pub one_data : (ts : Tokens) (x y : Pairs) → WritesPairs x ts → WritesPairs y ts → IsShallow ts → x ≡ y
 one_data = law.one_value all WritesPairs (items assignment) exact
 
-pub syntax_left : (ts : Tokens) (n : ℕ) → assignments ts ≡ bad n → n ≤ length ts
-unfolding assignments
-syntax_left = law.syntax_left all WritesPairs (items assignment) exact
-
-pub deep_left : (ts : Tokens) (n : ℕ) → assignments ts ≡ deep n → suc n ≤ length ts
-unfolding assignments
-deep_left = law.deep_left all WritesPairs (items assignment) exact
-
-pub only_bad : (ts : Tokens) (n : ℕ) (x : Pairs) → assignments ts ≡ bad n → WritesPairs x ts → IsShallow ts → ⊥
-unfolding assignments
-only_bad = law.only_bad all WritesPairs (items assignment) exact
-
-pub only_deep : (ts : Tokens) (n : ℕ) (x : Pairs) → assignments ts ≡ deep n → WritesPairs x ts → IsShallow ts → ⊥
-unfolding assignments
-only_deep = law.only_deep all WritesPairs (items assignment) exact
-
-pub only_ok : (ts : Tokens) (x y : Pairs) → assignments ts ≡ ok y [] → WritesPairs x ts → IsShallow ts → y ≡ x
-unfolding assignments
-only_ok = law.only_ok all WritesPairs (items assignment) exact
-
 pub some_data : (ts : Tokens) → HasAnswer WritesPairs ts
 some_data = law.some_answer all WritesPairs (items assignment) exact
+
+pub within : (ts : Tokens) (r : Result Assignments ParseFault) → Reads assignments_view (assignments ts) r [] → IsWithin (length ts) r
+unfolding assignments
+within = t.within assignments_view all WritesPairs (items assignment) exact
+
+pub answered : (ts : Tokens) (r : Result Assignments ParseFault) → Reads assignments_view (assignments ts) r [] → t.Answered assignments_view WritesPairs ts (from_front (length ts) r)
+unfolding assignments
+answered = t.answered assignments_view all WritesPairs (items assignment) exact

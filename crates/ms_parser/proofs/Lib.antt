@@ -21,4 +21,4 @@ pub mod ItemParts
 pub mod Modeled
 pub mod Grouped
 pub mod Whole
-pub mod Causes
+pub mod Answered

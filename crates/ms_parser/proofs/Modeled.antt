@@ -1,9 +1,8 @@
 -- Items, and so models, are read as the grammar writes them.
-use Rattle.std.proofs.Common.{◌≡◌, ℕ, suc, ◌-◌, ◌≤◌, List, [], ◌∷◌, ◌++◌, length, Option, Some, None, Bool, false, refl, sym, ap, ◌∙◌, subst, arith, ◌⊎◌, inl, inr}
+use Rattle.std.proofs.Common.{◌≡◌, ℕ, suc, ◌≤◌, List, [], ◌∷◌, ◌++◌, length, Option, Some, None, Bool, false, refl, sym, ap, ◌∙◌, subst, arith, ◌⊎◌, inl, inr}
 use Rattle.std.specs.Prelude.{option_and_then}
 use Rattle.ms_syntax.specs.declared.token.Token.{Token}
 use Rattle.ms_syntax.specs.declared.token.Token.TheVariants as tok
-use Rattle.ms_syntax.specs.declared.token.Keyword.{Keyword}
 use Rattle.ms_syntax.specs.declared.token.Keyword.TheVariants as k
 use Rattle.ms_syntax.specs.declared.token.Symbol.TheVariants as s
 use Rattle.ms_syntax.specs.declared.token.Spanned.{Spanned}
@@ -11,11 +10,11 @@ use Rattle.ms_syntax.specs.declared.tree.Mode.{Mode}
 use Rattle.ms_syntax.specs.declared.tree.Mode.TheVariants as m
 use Rattle.ms_syntax.specs.Tree as x
 use Rattle.ms_syntax.specs.Tree.{Ex, Kd, Bs, Indices, It, Items}
-use Rattle.ms_syntax.specs.Grammar.{Tokens, ◌⋅◌, the, Writes, WritesNotes, WritesDecl, WritesElements, WritesParams, WritesGoal, WritesItem, WritesTree, WritesBase, WritesIndices, WritesMode, WritesKind, IsShallow, SyntaxAt, DeepAt, mark, left, left_after}
-use Rattle.ms_parser.specs.Answers.{HasAnswer}
+use Rattle.ms_syntax.specs.Grammar.{Tokens, ◌⋅◌, the, Writes, WritesNotes, WritesDecl, WritesElements, WritesParams, WritesGoal, WritesItem, WritesTree, WritesBase, WritesIndices, WritesMode, WritesKind, IsShallow, mark, left, left_after}
+use Rattle.ms_parser.specs.Answers.{HasAnswer, IsWithin, from_front}
 use Rattle.ms_expressions.specs.Reading.{Out, bad, deep, Parser, ok, pick, tagged, into, skip}
 use Rattle.ms_expressions.specs.Kinds.{symbol, keyword}
-use Rattle.ms_expressions.specs.Rules.{past_declaration, kind, declared, declaration, under, peek, kind_word, if_name, last_value, of_range, an_item, items, model}
+use Rattle.ms_expressions.specs.Rules.{past_declaration, declared, declaration, under, peek, kind_word, if_name, last_value, of_range, an_item, items, model}
 use Rattle.ms_parser.proofs.Classes.{symbol_class, keyword_class}
 use Rattle.ms_parser.proofs.Exact.{Exact, Stops, Found, Stuck, Passes, IsDeep, SameHead, nobody}
 use Rattle.ms_parser.proofs.Choices.{either, some_or}
@@ -26,7 +25,13 @@ use Rattle.ms_parser.proofs.Enclosed.{e_range, Fresh}
 use Rattle.ms_parser.proofs.Bases.{IsWord, word_exact, IsKind, FreshKind, nobody_fresh_base}
 use Rattle.ms_parser.proofs.Decls.{e_declared, IsDeclared, kind_exact, declared_exact, declaration_exact}
 use Rattle.ms_parser.proofs.Items.{all, items_exact}
+use Rattle.std.specs.Prelude.{Result}
+use Rattle.ms_syntax.specs.declared.tree.Tree.{Tree}
+use Rattle.ms_syntax.specs.Tree.{tree_view}
+use Rattle.ms_expressions.specs.declared.fault.ParseFault.{ParseFault}
+use Rattle.ms_expressions.specs.Reads.{Reads}
 use Rattle.ms_parser.proofs.Law as law
+use Rattle.ms_parser.proofs.Answered as t
 use Rattle.ms_parser.proofs.ItemParts.{string_exact, any_at, range_at, any_in, range_in, last_value_exact, elements_exact, parameters_exact, constrained_exact, solved_exact, name_class_is, range_declared, RawOfRange, begins_no, range_some, of_range_to, assignment_from, range_from}
 
 -- ---- a choice by the next token, which is left where it is
@@ -291,40 +296,16 @@ model_items = items (an_item 200 (under 201) (under 200) (under 199))
 exact : (n : ℕ) → Exact n 200 200 nobody all WritesTree model_items
 exact = items_exact 200 e_declared refl WritesItem item_some (an_item 200 (under 201) (under 200) (under 199)) an_item_exact
 
-pub model_syntax : (ts : Tokens) (n : ℕ) → model ts ≡ bad n → SyntaxAt WritesTree ts (length ts - n)
-unfolding model
-model_syntax = law.whole_syntax all WritesTree model_items exact
-
-pub model_deep : (ts : Tokens) (n : ℕ) → model ts ≡ deep n → DeepAt WritesTree ts (length ts - n - 1)
-unfolding model
-model_deep = law.whole_deep all WritesTree model_items exact
-
 pub one_model : (ts : Tokens) (x y : Items) → WritesTree x ts → WritesTree y ts → IsShallow ts → x ≡ y
 one_model = law.one_value all WritesTree model_items exact
 
-pub syntax_left : (ts : Tokens) (n : ℕ) → model ts ≡ bad n → n ≤ length ts
-unfolding model
-syntax_left = law.syntax_left all WritesTree model_items exact
-
-pub deep_left : (ts : Tokens) (n : ℕ) → model ts ≡ deep n → suc n ≤ length ts
-unfolding model
-deep_left = law.deep_left all WritesTree model_items exact
-
-pub only_bad : (ts : Tokens) (n : ℕ) (x : Items) → model ts ≡ bad n → WritesTree x ts → IsShallow ts → ⊥
-unfolding model
-only_bad = law.only_bad all WritesTree model_items exact
-
-pub only_deep : (ts : Tokens) (n : ℕ) (x : Items) → model ts ≡ deep n → WritesTree x ts → IsShallow ts → ⊥
-unfolding model
-only_deep = law.only_deep all WritesTree model_items exact
-
-pub only_ok : (ts : Tokens) (x y : Items) → model ts ≡ ok y [] → WritesTree x ts → IsShallow ts → y ≡ x
-unfolding model
-only_ok = law.only_ok all WritesTree model_items exact
-
-pub model_found : (ts : Tokens) (x : Items) → model ts ≡ ok x [] → WritesTree x ts × IsShallow ts
-unfolding model
-model_found ts x = law.whole_found all WritesTree model_items exact ts x []
-
 pub some_model : (ts : Tokens) → HasAnswer WritesTree ts
 some_model = law.some_answer all WritesTree model_items exact
+
+pub within : (ts : Tokens) (r : Result Tree ParseFault) → Reads tree_view (model ts) r [] → IsWithin (length ts) r
+unfolding model
+within = t.within tree_view all WritesTree model_items exact
+
+pub answered : (ts : Tokens) (r : Result Tree ParseFault) → Reads tree_view (model ts) r [] → t.Answered tree_view WritesTree ts (from_front (length ts) r)
+unfolding model
+answered = t.answered tree_view all WritesTree model_items exact

@@ -1,5 +1,5 @@
 -- What a call answers where one value is written so, or one fault stands; and that tokens have an answer.
-use Rattle.std.specs.Prelude.{◌≡◌, ◌⊎◌, ℕ, Result, Ok, Err}
+use Rattle.std.specs.Prelude.{◌≡◌, ◌≤◌, ◌<◌, ◌-◌, ◌⊎◌, ℕ, Result, Ok, Err}
 use Rattle.ms_syntax.specs.Grammar.{Tokens, IsShallow, SyntaxAt, DeepAt}
 use Rattle.ms_expressions.specs.declared.fault.ParseFault.{ParseFault}
 use Rattle.ms_expressions.specs.declared.fault.ParseFault.TheVariants.{Syntax, Deep, Memory}
@@ -20,3 +20,17 @@ FailsUnlessMemory fault (Err (Deep k)) = fault ≡ Deep k
 -- first that nests too deep
 abbrev pub HasAnswer : {A : Type 0} → (A → Tokens → Type 0) → Tokens → Type 0
 HasAnswer {A} writes ts = ((x : A) × writes x ts × IsShallow ts) ⊎ ((k : ℕ) × SyntaxAt writes ts k) ⊎ ((k : ℕ) × DeepAt writes ts k)
+
+-- of n tokens, a fault told by how many are left tells of one of them, or of their end
+abbrev pub IsWithin : {X : Type 0} → ℕ → Result X ParseFault → Type 0
+IsWithin n (Ok a) = Unit {0}
+IsWithin n (Err Memory) = Unit {0}
+IsWithin n (Err (Syntax left)) = left ≤ n
+IsWithin n (Err (Deep left)) = left < n
+
+-- the same with a fault told by its place from the front
+abbrev pub from_front : {X : Type 0} → ℕ → Result X ParseFault → Result X ParseFault
+from_front n (Ok a) = Ok a
+from_front n (Err Memory) = Err Memory
+from_front n (Err (Syntax left)) = Err (Syntax (n - left))
+from_front n (Err (Deep left)) = Err (Deep (n - left - 1))

@@ -7,6 +7,7 @@ ghost use Rattle.ms_expressions.specs.Reads.{Reads, turn_view};
 ghost use Rattle.ms_parser.specs.Answers.{GivesUnlessMemory, FailsUnlessMemory};
 ghost use Rattle.ms_expressions.specs.Rules as rules;
 
+use crate::answer::answer;
 use crate::outermost::any;
 use ms_expressions::{Behind, Cursor, ParseFault, Turn, binder};
 use ms_syntax::{Assignment, Assignments, Binder, Spanned, Symbol};
@@ -65,27 +66,6 @@ fn whole_data(alloc: Global, tokens: &[Spanned]) -> Result<Assignments, ParseFau
     let (list, closed) = list(alloc, &mut cursor)?;
     cursor.finish()?;
     Ok(Assignments { list, closed })
-}
-
-/// A fault by its place from the front.
-fn answer(
-    tokens: &[Spanned],
-    read: Result<Assignments, ParseFault>,
-) -> Result<Assignments, ParseFault>
-    requires { Reads assignments_view (rules.assignments tokens.now) read [] }
-    ensures found { IfOk result (λ d. WritesPairs (assignments_view d) tokens.now × IsShallow tokens.now) }
-    ensures only { (x : Pairs) → WritesPairs x tokens.now → IsShallow tokens.now → GivesUnlessMemory assignments_view x result }
-    ensures syntax { (k : ℕ) → result ≡ Err (ParseFault.Syntax k) → SyntaxAt WritesPairs tokens.now k }
-    ensures deep { (k : ℕ) → result ≡ Err (ParseFault.Deep k) → DeepAt WritesPairs tokens.now k }
-{
-    match read {
-        Ok(data) => Ok(data),
-        Err(fault) => match fault {
-            ParseFault::Syntax(left) => Err(ParseFault::Syntax(tokens.len() - left)),
-            ParseFault::Deep(left) => Err(ParseFault::Deep(tokens.len() - left - 1)),
-            ParseFault::Memory => Err(ParseFault::Memory),
-        },
-    }
 }
 
 /// The one list of assignments that the grammar writes as the tokens of data, with brackets and `if` nested at

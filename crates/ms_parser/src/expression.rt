@@ -7,6 +7,7 @@ ghost use Rattle.ms_expressions.specs.Reads.{Reads};
 ghost use Rattle.ms_expressions.specs.Rules as spec;
 ghost use Rattle.ms_parser.specs.Answers.{GivesUnlessMemory, FailsUnlessMemory};
 
+use crate::answer::answer;
 use ms_expressions::{Cursor, ParseFault, Reach, expr};
 use ms_syntax::{Expr, Spanned};
 use std::alloc::Global;
@@ -21,24 +22,6 @@ fn whole_statement(alloc: Global, tokens: &[Spanned]) -> Result<Expr, ParseFault
     let read = expr(alloc, &mut cursor, MAX_NESTING + 1, Reach::Any)?;
     cursor.finish()?;
     Ok(read)
-}
-
-/// A fault by its place from the front.
-fn answer(tokens: &[Spanned], read: Result<Expr, ParseFault>) -> Result<Expr, ParseFault>
-    requires { Reads ex_view (spec.statement tokens.now) read [] }
-    ensures found { IfOk result (λ e. Writes (ex_view e) tokens.now × IsShallow tokens.now) }
-    ensures only { (x : Ex) → Writes x tokens.now → IsShallow tokens.now → GivesUnlessMemory ex_view x result }
-    ensures syntax { (k : ℕ) → result ≡ Err (ParseFault.Syntax k) → SyntaxAt Writes tokens.now k }
-    ensures deep { (k : ℕ) → result ≡ Err (ParseFault.Deep k) → DeepAt Writes tokens.now k }
-{
-    match read {
-        Ok(e) => Ok(e),
-        Err(fault) => match fault {
-            ParseFault::Syntax(left) => Err(ParseFault::Syntax(tokens.len() - left)),
-            ParseFault::Deep(left) => Err(ParseFault::Deep(tokens.len() - left - 1)),
-            ParseFault::Memory => Err(ParseFault::Memory),
-        },
-    }
 }
 
 /// The one expression that the grammar writes as the tokens, with brackets and `if` nested at most

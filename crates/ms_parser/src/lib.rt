@@ -15,6 +15,7 @@
 //! and the views of trees alone. How an answer is found is not told, nor what it costs.
 #![tactic(auto)]
 
+mod answer;
 mod data;
 mod expression;
 mod item;

@@ -8,6 +8,7 @@ ghost use Rattle.ms_parser.specs.Answers.{GivesUnlessMemory, FailsUnlessMemory};
 ghost use Rattle.ms_expressions.specs.Rules as rules;
 ghost use Rattle.ms_parser.specs.Outermost as spec;
 
+use crate::answer::answer;
 use crate::item::item;
 use ms_expressions::{Cursor, ParseFault, Turn};
 use ms_syntax::{Item, Spanned, Symbol, Tree};
@@ -55,24 +56,6 @@ fn whole_model(alloc: Global, tokens: &[Spanned]) -> Result<Tree, ParseFault>
     let (items, closed) = items(alloc, &mut cursor)?;
     cursor.finish()?;
     Ok(Tree { items, closed })
-}
-
-/// A fault by its place from the front.
-fn answer(tokens: &[Spanned], read: Result<Tree, ParseFault>) -> Result<Tree, ParseFault>
-    requires { Reads tree_view (rules.model tokens.now) read [] }
-    ensures found { IfOk result (λ t. WritesTree (tree_view t) tokens.now × IsShallow tokens.now) }
-    ensures only { (x : Items) → WritesTree x tokens.now → IsShallow tokens.now → GivesUnlessMemory tree_view x result }
-    ensures syntax { (k : ℕ) → result ≡ Err (ParseFault.Syntax k) → SyntaxAt WritesTree tokens.now k }
-    ensures deep { (k : ℕ) → result ≡ Err (ParseFault.Deep k) → DeepAt WritesTree tokens.now k }
-{
-    match read {
-        Ok(tree) => Ok(tree),
-        Err(fault) => match fault {
-            ParseFault::Syntax(left) => Err(ParseFault::Syntax(tokens.len() - left)),
-            ParseFault::Deep(left) => Err(ParseFault::Deep(tokens.len() - left - 1)),
-            ParseFault::Memory => Err(ParseFault::Memory),
-        },
-    }
 }
 
 /// The one tree that the grammar writes as the tokens of a model, with brackets and `if` nested at most
