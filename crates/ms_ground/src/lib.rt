@@ -17,6 +17,7 @@
 #![tactic(auto)]
 
 mod fit;
+mod kept;
 mod meaning;
 mod narrow;
 mod reaching;

@@ -4,10 +4,12 @@ ghost use Rattle.ms_num.specs.Numbers.{add_at};
 ghost use Rattle.ms_num.specs.Span.{point as single};
 ghost use Rattle.ms_trees.specs.Value.{value, folded, extreme, selected, counted, all_true, any_true, first_differs, are_distinct, is_row};
 ghost use Rattle.ms_trees.specs.Reach.{reach, points};
+ghost use Rattle.ms_ground.specs.Kept.{KeepsNumbers, part};
 ghost use Rattle.ms_spans.specs.Access.{reaches as reached_by};
 ghost use Rattle.ms_spans.specs.Extreme.{extreme_at as operation_of};
 ghost use Rattle.ms_trees.specs.Fit.{is_fit, numbers, truths, sums_fit, checked, IsWithin};
 
+use crate::kept::KEPT;
 use ms_num::Iv;
 use ms_spans::access::{Access, reaches};
 use ms_spans::extreme::Extreme;
@@ -221,13 +223,47 @@ fn some_holds(parts: &[Ground], point: &[i64]) -> bool
     false
 }
 
+// The numbers of the first parts, each asked once.
+#[cycle(meaning)]
+fn first_numbers(parts: &[Ground], point: &[i64]) -> [Option<i64>; KEPT]
+    requires { IsTrue (numbers (map (checked (points point.now)) parts.now)) }
+    ensures { KeepsNumbers point.now parts.now result }
+{
+    let mut kept = [None; KEPT];
+    for place in 0..parts.len().min(KEPT) {
+        kept[place] = value_at(&parts[place], point);
+    }
+    kept
+}
+
+// The number of the part at the place.
+#[cycle(meaning)]
+fn number_at(
+    parts: &[Ground],
+    kept: &[Option<i64>; KEPT],
+    place: usize,
+    point: &[i64],
+) -> Option<i64>
+    requires fit { IsTrue (numbers (map (checked (points point.now)) (drop place parts.now))) }
+    requires place { place < length parts.now }
+    requires kept { KeepsNumbers point.now parts.now kept.now }
+    ensures { result ≡ (value point.now (part parts.now place)).number }
+{
+    if place < KEPT {
+        kept[place]
+    } else {
+        value_at(&parts[place], point)
+    }
+}
+
 #[cycle(meaning)]
 fn all_differ(parts: &[Ground], point: &[i64]) -> bool
     requires { IsTrue (numbers (map (checked (points point.now)) parts.now)) }
     ensures { result ≡ are_distinct (map (value point.now) parts.now) }
 {
+    let kept = first_numbers(parts, point);
     for place in 0..parts.len() {
-        if !differs_from_later(parts, place, point) {
+        if !differs_from_later(parts, &kept, place, point) {
             return false;
         }
     }
@@ -236,17 +272,23 @@ fn all_differ(parts: &[Ground], point: &[i64]) -> bool
 
 // The part at the place is a number, and no later part is the same.
 #[cycle(meaning)]
-fn differs_from_later(parts: &[Ground], place: usize, point: &[i64]) -> bool
+fn differs_from_later(
+    parts: &[Ground],
+    kept: &[Option<i64>; KEPT],
+    place: usize,
+    point: &[i64],
+) -> bool
     requires fit { IsTrue (numbers (map (checked (points point.now)) (drop place parts.now))) }
     requires place { place < length parts.now }
+    requires kept { KeepsNumbers point.now parts.now kept.now }
     ensures { result ≡ first_differs (map (value point.now) (drop place parts.now)) }
 {
-    let x = value_at(&parts[place], point);
+    let x = number_at(parts, kept, place, point);
     if x.is_none() {
         return false;
     }
     for later in place + 1..parts.len() {
-        if !differ(x, value_at(&parts[later], point)) {
+        if !differ(x, number_at(parts, kept, later, point)) {
             return false;
         }
     }
@@ -258,8 +300,9 @@ fn is_some_row(parts: &[Ground], rows: &[Row], point: &[i64]) -> bool
     requires { IsTrue (numbers (map (checked (points point.now)) parts.now)) }
     ensures { result ≡ list_any (is_row (map (value point.now) parts.now)) rows.now }
 {
+    let kept = first_numbers(parts, point);
     for row in rows {
-        if are_numbers(parts, row.as_slice(), point) {
+        if are_numbers(parts, &kept, row.as_slice(), point) {
             return true;
         }
     }
@@ -268,15 +311,16 @@ fn is_some_row(parts: &[Ground], rows: &[Row], point: &[i64]) -> bool
 
 // The parts are the numbers, one by one.
 #[cycle(meaning)]
-fn are_numbers(parts: &[Ground], row: &[i64], point: &[i64]) -> bool
-    requires { IsTrue (numbers (map (checked (points point.now)) parts.now)) }
+fn are_numbers(parts: &[Ground], kept: &[Option<i64>; KEPT], row: &[i64], point: &[i64]) -> bool
+    requires fit { IsTrue (numbers (map (checked (points point.now)) parts.now)) }
+    requires kept { KeepsNumbers point.now parts.now kept.now }
     ensures { result ≡ is_row (map (value point.now) parts.now) row.now }
 {
     if parts.len() != row.len() {
         return false;
     }
     for place in 0..parts.len() {
-        if !is_entry(value_at(&parts[place], point), row, place) {
+        if !is_entry(number_at(parts, kept, place, point), row, place) {
             return false;
         }
     }

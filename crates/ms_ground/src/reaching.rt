@@ -1,12 +1,14 @@
 ghost use Rattle.std.specs.Prelude.{◌≡◌, ◌<◌, IsTrue, Some, pos, map, ◌||◌, ◌&&◌, not, IfSome, length, drop};
 ghost use Rattle.std.specs.List.{list_any};
 ghost use Rattle.ms_num.specs.Span.{IsInterval, add_span, point as single};
-ghost use Rattle.ms_trees.specs.Reach.{reach, hull_of, folded, any_undefined, all_yes, any_no, any_yes, all_no, extreme, selected, counted, all_some, some_meet, has_room, room_from, have_room, some_several, may_be_row, test, numeric as numeric_of, boolean as boolean_of};
+ghost use Rattle.ms_trees.specs.Reach.{reach, hull_of, folded, any_undefined, all_yes, any_no, any_yes, all_no, extreme, selected, counted, all_some, some_meet, has_room, room_from, have_room, some_several, may_be_row, distinct, rowed, test, numeric as numeric_of, boolean as boolean_of};
+ghost use Rattle.ms_ground.specs.Kept.{KeepsReaches, numbers_of, part};
 ghost use Rattle.ms_spans.specs.Access.{reaches as reached_by};
 ghost use Rattle.ms_spans.specs.Extreme.{extreme_span as operation_of};
 ghost use Rattle.ms_trees.specs.Fit.{is_fit, numbers, truths, sums_fit, checked};
 ghost use Rattle.ms_spans.specs.Room.{first_meets};
 
+use crate::kept::KEPT;
 use ms_num::Iv;
 use ms_spans::access::{Access, misses, misses_grid, reaches};
 use ms_spans::extreme::Extreme;
@@ -128,14 +130,8 @@ pub fn truths_on(g: &Ground, sets: &[Iv]) -> Reach
             either_of_truths(c, truths_on(a.get(), sets), truths_on(b.get(), sets))
         }
         Ground::In(a, ranges) => membership(numbers_on(a.get(), sets), ranges),
-        Ground::AllDiff(parts) => {
-            let yes = all_have_room(parts.as_slice(), sets);
-            boolean(yes, some_meet_on(parts.as_slice(), sets))
-        }
-        Ground::Table(parts, rows) => {
-            let fits = some_row_on(parts.as_slice(), rows.as_slice(), sets);
-            tabled(fits, some_unsure_on(parts.as_slice(), sets))
-        }
+        Ground::AllDiff(parts) => distinct_on(parts.as_slice(), sets),
+        Ground::Table(parts, rows) => rowed_on(parts.as_slice(), rows.as_slice(), sets),
         _ => boolean(false, false),
     }
 }
@@ -239,17 +235,56 @@ fn any_on(parts: &[Ground], sets: &[Iv]) -> Reach
     boolean(yes, no)
 }
 
+// What the first parts may mean, each asked once.
+#[cycle(reach)]
+fn first_reaches(parts: &[Ground], sets: &[Iv]) -> [Reach; KEPT]
+    requires { IsTrue (numbers (map (checked sets.now) parts.now)) }
+    ensures { KeepsReaches sets.now parts.now result }
+{
+    let mut kept = [numeric(None, false); KEPT];
+    for place in 0..parts.len().min(KEPT) {
+        kept[place] = numbers_on(&parts[place], sets);
+    }
+    kept
+}
+
+// What the part at the place may mean.
+#[cycle(reach)]
+fn reach_at(parts: &[Ground], kept: &[Reach; KEPT], place: usize, sets: &[Iv]) -> Reach
+    requires fit { IsTrue (numbers (map (checked sets.now) (drop place parts.now))) }
+    requires place { place < length parts.now }
+    requires kept { KeepsReaches sets.now parts.now kept.now }
+    ensures { result ≡ numbers_of sets.now (part parts.now place) }
+{
+    if place < KEPT {
+        kept[place]
+    } else {
+        numbers_on(&parts[place], sets)
+    }
+}
+
+#[cycle(reach)]
+fn distinct_on(parts: &[Ground], sets: &[Iv]) -> Reach
+    requires { IsTrue (numbers (map (checked sets.now) parts.now)) }
+    ensures { result ≡ distinct (map (reach sets.now) parts.now) }
+{
+    let kept = first_reaches(parts, sets);
+    let yes = all_have_room(parts, &kept, sets);
+    boolean(yes, some_meet_on(parts, &kept, sets))
+}
+
 // Each part has an interval, and each range between two ends has room.
 #[cycle(reach)]
-fn all_have_room(parts: &[Ground], sets: &[Iv]) -> bool
-    requires { IsTrue (numbers (map (checked sets.now) parts.now)) }
+fn all_have_room(parts: &[Ground], kept: &[Reach; KEPT], sets: &[Iv]) -> bool
+    requires fit { IsTrue (numbers (map (checked sets.now) parts.now)) }
+    requires kept { KeepsReaches sets.now parts.now kept.now }
     ensures { result ≡ (all_some (map (reach sets.now) parts.now) && have_room (map (reach sets.now) parts.now)) }
 {
-    for part in parts {
-        let Some(start) = numbers_on(part, sets).numbers else {
+    for place in 0..parts.len() {
+        let Some(start) = reach_at(parts, kept, place, sets).numbers else {
             return false;
         };
-        if !has_room_from(parts, start, sets) {
+        if !has_room_from(parts, kept, start, sets) {
             return false;
         }
     }
@@ -257,13 +292,14 @@ fn all_have_room(parts: &[Ground], sets: &[Iv]) -> bool
 }
 
 #[cycle(reach)]
-fn has_room_from(parts: &[Ground], start: Iv, sets: &[Iv]) -> bool
-    requires { IsTrue (numbers (map (checked sets.now) parts.now)) }
+fn has_room_from(parts: &[Ground], kept: &[Reach; KEPT], start: Iv, sets: &[Iv]) -> bool
+    requires fit { IsTrue (numbers (map (checked sets.now) parts.now)) }
+    requires kept { KeepsReaches sets.now parts.now kept.now }
     ensures { result ≡ room_from (map (reach sets.now) parts.now) (Some start) }
 {
-    for part in parts {
-        let range = between(start, numbers_on(part, sets).numbers);
-        if !has_room_on(parts, range, sets) {
+    for place in 0..parts.len() {
+        let range = between(start, reach_at(parts, kept, place, sets).numbers);
+        if !has_room_on(parts, kept, range, sets) {
             return false;
         }
     }
@@ -272,8 +308,9 @@ fn has_room_from(parts: &[Ground], start: Iv, sets: &[Iv]) -> bool
 
 // The range, if there is one, holds the intervals of no more parts than it has numbers.
 #[cycle(reach)]
-fn has_room_on(parts: &[Ground], range: Option<Iv>, sets: &[Iv]) -> bool
-    requires { IsTrue (numbers (map (checked sets.now) parts.now)) }
+fn has_room_on(parts: &[Ground], kept: &[Reach; KEPT], range: Option<Iv>, sets: &[Iv]) -> bool
+    requires fit { IsTrue (numbers (map (checked sets.now) parts.now)) }
+    requires kept { KeepsReaches sets.now parts.now kept.now }
     ensures { result ≡ not (test (λ s. not (has_room s.lo s.hi (map (reach sets.now) parts.now))) range) }
 {
     let Some(range) = range else {
@@ -283,20 +320,21 @@ fn has_room_on(parts: &[Ground], range: Option<Iv>, sets: &[Iv]) -> bool
         return true;
     }
     let mut held = 0usize;
-    for part in parts {
-        held += one_if(lies_in(numbers_on(part, sets).numbers, range));
+    for place in 0..parts.len() {
+        held += one_if(lies_in(reach_at(parts, kept, place, sets).numbers, range));
     }
     has_many(range, held)
 }
 
 // A part may be undefined, or the intervals of two parts meet.
 #[cycle(reach)]
-fn some_meet_on(parts: &[Ground], sets: &[Iv]) -> bool
-    requires { IsTrue (numbers (map (checked sets.now) parts.now)) }
+fn some_meet_on(parts: &[Ground], kept: &[Reach; KEPT], sets: &[Iv]) -> bool
+    requires fit { IsTrue (numbers (map (checked sets.now) parts.now)) }
+    requires kept { KeepsReaches sets.now parts.now kept.now }
     ensures { result ≡ (any_undefined (map (reach sets.now) parts.now) || some_meet (map (reach sets.now) parts.now)) }
 {
     for place in 0..parts.len() {
-        if first_meets_on(parts, place, sets) {
+        if first_meets_on(parts, kept, place, sets) {
             return true;
         }
     }
@@ -304,17 +342,18 @@ fn some_meet_on(parts: &[Ground], sets: &[Iv]) -> bool
 }
 
 #[cycle(reach)]
-fn first_meets_on(parts: &[Ground], place: usize, sets: &[Iv]) -> bool
+fn first_meets_on(parts: &[Ground], kept: &[Reach; KEPT], place: usize, sets: &[Iv]) -> bool
     requires fit { IsTrue (numbers (map (checked sets.now) (drop place parts.now))) }
     requires place { place < length parts.now }
+    requires kept { KeepsReaches sets.now parts.now kept.now }
     ensures { result ≡ first_meets (map (reach sets.now) (drop place parts.now)) }
 {
-    let x = numbers_on(&parts[place], sets);
+    let x = reach_at(parts, kept, place, sets);
     if x.undefined {
         return true;
     }
     for later in place + 1..parts.len() {
-        if meets(x.numbers, numbers_on(&parts[later], sets).numbers) {
+        if meets(x.numbers, reach_at(parts, kept, later, sets).numbers) {
             return true;
         }
     }
@@ -322,12 +361,23 @@ fn first_meets_on(parts: &[Ground], place: usize, sets: &[Iv]) -> bool
 }
 
 #[cycle(reach)]
-fn some_row_on(parts: &[Ground], rows: &[Row], sets: &[Iv]) -> bool
+fn rowed_on(parts: &[Ground], rows: &[Row], sets: &[Iv]) -> Reach
     requires { IsTrue (numbers (map (checked sets.now) parts.now)) }
+    ensures { result ≡ rowed rows.now (map (reach sets.now) parts.now) }
+{
+    let kept = first_reaches(parts, sets);
+    let fits = some_row_on(parts, &kept, rows, sets);
+    tabled(fits, some_unsure_on(parts, &kept, sets))
+}
+
+#[cycle(reach)]
+fn some_row_on(parts: &[Ground], kept: &[Reach; KEPT], rows: &[Row], sets: &[Iv]) -> bool
+    requires fit { IsTrue (numbers (map (checked sets.now) parts.now)) }
+    requires kept { KeepsReaches sets.now parts.now kept.now }
     ensures { result ≡ list_any (may_be_row (map (reach sets.now) parts.now)) rows.now }
 {
     for row in rows {
-        if admit_row(parts, row.as_slice(), sets) {
+        if admit_row(parts, kept, row.as_slice(), sets) {
             return true;
         }
     }
@@ -336,15 +386,16 @@ fn some_row_on(parts: &[Ground], rows: &[Row], sets: &[Iv]) -> bool
 
 // The intervals of the parts have the numbers, one by one.
 #[cycle(reach)]
-fn admit_row(parts: &[Ground], row: &[i64], sets: &[Iv]) -> bool
-    requires { IsTrue (numbers (map (checked sets.now) parts.now)) }
+fn admit_row(parts: &[Ground], kept: &[Reach; KEPT], row: &[i64], sets: &[Iv]) -> bool
+    requires fit { IsTrue (numbers (map (checked sets.now) parts.now)) }
+    requires kept { KeepsReaches sets.now parts.now kept.now }
     ensures { result ≡ may_be_row (map (reach sets.now) parts.now) row.now }
 {
     if parts.len() != row.len() {
         return false;
     }
     for place in 0..parts.len() {
-        if !admits(numbers_on(&parts[place], sets).numbers, row, place) {
+        if !admits(reach_at(parts, kept, place, sets).numbers, row, place) {
             return false;
         }
     }
@@ -353,12 +404,13 @@ fn admit_row(parts: &[Ground], row: &[i64], sets: &[Iv]) -> bool
 
 // A part may be undefined, or has two numbers or more.
 #[cycle(reach)]
-fn some_unsure_on(parts: &[Ground], sets: &[Iv]) -> bool
-    requires { IsTrue (numbers (map (checked sets.now) parts.now)) }
+fn some_unsure_on(parts: &[Ground], kept: &[Reach; KEPT], sets: &[Iv]) -> bool
+    requires fit { IsTrue (numbers (map (checked sets.now) parts.now)) }
+    requires kept { KeepsReaches sets.now parts.now kept.now }
     ensures { result ≡ (any_undefined (map (reach sets.now) parts.now) || some_several (map (reach sets.now) parts.now)) }
 {
-    for part in parts {
-        if is_unsure(numbers_on(part, sets)) {
+    for place in 0..parts.len() {
+        if is_unsure(reach_at(parts, kept, place, sets)) {
             return true;
         }
     }

@@ -1,9 +1,9 @@
-use Rattle.std.proofs.Common.{◌≡◌, ◌+◌, ◌&&◌, Bool, true, not, get_or, pos, [], Some, None, map, drop, length, add-zero, of_z, refl, arith, ◌∙◌, sym, ap, rules, to_z, w64, SFits}
+use Rattle.std.proofs.Common.{◌≡◌, ◌+◌, ◌<◌, ◌&&◌, Bool, true, not, get_or, pos, [], Some, None, map, drop, length, add-zero, of_z, refl, arith, ◌∙◌, sym, ap, rules, to_z, w64, SFits}
 use Rattle.std.specs.Prelude.{is_some, if◌then◌else◌}
 use Rattle.std.proofs.lemmas.Int.{to_z-of_z, to_z_pos}
 use Rattle.std.proofs.lemmas.List.{drop_all}
 use Rattle.ms_num.specs.Numbers.{int_eq}
-use Rattle.std.proofs.Math.ListN.{length-map}
+use Rattle.std.proofs.Math.ListN.{length-map, length-set}
 use Rattle.ms_num.specs.Span.{point}
 use Rattle.std.specs.List.{list_any, list_all}
 use Rattle.ms_trees.specs.Value.{Meaning, value, selected, is_place, compare, int_ne, how_many, all_defined, are_distinct, is_row}
@@ -15,6 +15,8 @@ use Rattle.ms_tree_laws.proofs.Fits.{fit-Abs, fit-Add, fit-AllDiff, fit-And, fit
 use Rattle.ms_ground.proofs.Walks.{within_test, number_within, first_of_pair, onward_one, onward_none, onward_number, numbers_on, counted_one, not_counted, all_counted, unselected, unselected2, elem_value, elem2_value, second_of_pair, next_place, at_most_one, count_within, count_fits}
 use Rattle.ms_trees.proofs.Bools.{ap2}
 use Rattle.ms_ground.proofs.Distinct.{distinct_on, first_part, pass_on}
+use Rattle.ms_ground.specs.Kept.{part}
+use Rattle.ms_ground.proofs.Keeping.{part_here, part_read, kept_next}
 use Rattle.ms_ground.proofs.Rowed.{no_row, row_at, entry_here}
 use Rattle.ms_ground.proofs.meaning.+meaning.Goals as goal
 
@@ -393,6 +395,23 @@ holds-all_differ-requires t c = (search (rules, the_lemmas), rw c.as_slice-in-Al
 pub holds-is_some_row-requires : goal.holds-is_some_row-requires
 holds-is_some_row-requires t c = (search (rules, the_lemmas), rw c.as_slice-in-Table.ensures (fit-Table _ _ _ (rw c.in-Table.is at c.requires)))
 
+pub first_numbers-loop-place-preserved : goal.first_numbers-loop-place-preserved
+first_numbers-loop-place-preserved t c =
+    let l = c.loop-place in
+    let x = c.index-parts-place.result in
+    let lt : l.place < length c.args.parts.now = omega (arith, c.loop-place-test.true, c.min-place-end.ensures) in
+    let on = numbers_on c.args.point.now _ _ x (drop_here c.args.parts.now l.place x lt c.index-parts-place.is) l.invariant.fit in
+    let same = c.value_at.ensures ∙ ap (λ z. (value c.args.point.now z).number) (part_read c.args.parts.now l.place x lt c.index-parts-place.is) in
+    let room : l.place < length l.kept = omega (arith, c.loop-place-test.true, c.min-place-end.ensures, l.invariant.size) in
+    record {
+      fit = on.fit;
+      size = length-set l.kept l.place c.value_at.result ∙ l.invariant.size;
+      kept = kept_next l.kept None c.value_at.result (λ k. (value c.args.point.now (part c.args.parts.now k)).number) l.place room same l.invariant.kept;
+    }
+
+pub first_numbers-returns : goal.first_numbers-returns
+first_numbers-returns t c = λ k few lt. c.loop-place.invariant.kept k (omega (arith, c.loop-place-test.false, c.min-place-end.ensures, c.loop-place.invariant.size, few, lt))
+
 pub all_differ-loop-place-preserved : goal.all_differ-loop-place-preserved
 all_differ-loop-place-preserved t c =
     let l = c.loop-place in
@@ -415,35 +434,32 @@ all_differ-returns t c =
 
 pub differs_from_later-loop-later-init : goal.differs_from_later-loop-later-init
 differs_from_later-loop-later-init t c =
-    let x = c.index-parts-place.result in
-    let here = drop_here c.args.parts.now c.args.place x c.requires.place c.index-parts-place.is in
-    let on = numbers_on c.args.point.now _ _ x here c.requires.fit in
+    let here = part_here c.args.parts.now c.args.place c.requires.place in
+    let on = numbers_on c.args.point.now _ _ (part c.args.parts.now c.args.place) here c.requires.fit in
     let some = c.is_none.ensures ∙ ap not c.if-is_none.false in
-    record { fit = on.fit; rest = first_part c.args.point.now _ _ x c.value_at-x.result true here c.value_at-x.ensures some }
+    record { fit = on.fit; rest = first_part c.args.point.now _ _ (part c.args.parts.now c.args.place) c.number_at-x.result true here c.number_at-x.ensures some }
 
 pub differs_from_later-loop-later-preserved : goal.differs_from_later-loop-later-preserved
 differs_from_later-loop-later-preserved t c =
     let l = c.loop-later in
-    let x = c.index-parts-later.result in
-    let here = drop_here c.args.parts.now l.later x c.loop-later-test.true c.index-parts-later.is in
-    let differs = rw c.value_at.ensures at c.differ.ensures in
-    let on = pass_on c.args.point.now _ _ x (λ m. compare int_ne c.value_at-x.result m.number) c.differ.result here differs l.invariant.fit in
+    let here = part_here c.args.parts.now l.later c.loop-later-test.true in
+    let differs = rw c.number_at.ensures at c.differ.ensures in
+    let on = pass_on c.args.point.now _ _ (part c.args.parts.now l.later) (λ m. compare int_ne c.number_at-x.result m.number) c.differ.result here differs l.invariant.fit in
     record { fit = on.fit; rest = rw c.if-not-differ.false at (sym on.all) ∙ l.invariant.rest }
 
 pub differs_from_later-returns-then-not-differ : goal.differs_from_later-returns-then-not-differ
 differs_from_later-returns-then-not-differ t c =
     let l = c.loop-later in
-    let x = c.index-parts-later.result in
-    let here = drop_here c.args.parts.now l.later x c.loop-later-test.true c.index-parts-later.is in
-    let differs = rw c.value_at.ensures at c.differ.ensures in
-    let on = pass_on c.args.point.now _ _ x (λ m. compare int_ne c.value_at-x.result m.number) c.differ.result here differs l.invariant.fit in
+    let here = part_here c.args.parts.now l.later c.loop-later-test.true in
+    let differs = rw c.number_at.ensures at c.differ.ensures in
+    let on = pass_on c.args.point.now _ _ (part c.args.parts.now l.later) (λ m. compare int_ne c.number_at-x.result m.number) c.differ.result here differs l.invariant.fit in
     rw c.if-not-differ.true at (sym on.all) ∙ l.invariant.rest
 
 pub differs_from_later-returns : goal.differs_from_later-returns
 differs_from_later-returns t c =
     let l = c.loop-later in
     let none : drop l.later c.args.parts.now ≡ [] = drop_all l.later c.args.parts.now c.loop-later-test.false in
-    sym (ap (λ zs. list_all (λ (m : Meaning). compare int_ne c.value_at-x.result m.number) (map (value c.args.point.now) zs)) none) ∙ l.invariant.rest
+    sym (ap (λ zs. list_all (λ (m : Meaning). compare int_ne c.number_at-x.result m.number) (map (value c.args.point.now) zs)) none) ∙ l.invariant.rest
 
 pub is_some_row-loop-row-preserved : goal.is_some_row-loop-row-preserved
 is_some_row-loop-row-preserved t c =
@@ -465,21 +481,19 @@ are_numbers-returns-then-parts-row t c = no_row c.args.point.now c.args.parts.no
 pub are_numbers-loop-place-preserved : goal.are_numbers-loop-place-preserved
 are_numbers-loop-place-preserved t c =
     let l = c.loop-place in
-    let x = c.index-parts-place.result in
-    let here = drop_here c.args.parts.now l.place x c.loop-place-test.true c.index-parts-place.is in
+    let here = part_here c.args.parts.now l.place c.loop-place-test.true in
     let there = entry_here c.args.row.now l.place (omega (arith, c.loop-place-test.true, c.if-parts-row.false)) in
-    let same = rw c.value_at.ensures at c.is_entry.ensures in
-    let on = row_at c.args.point.now _ _ x _ _ (get_or c.args.row.now l.place (pos 0)) c.is_entry.result here there same l.invariant.fit in
+    let same = rw c.number_at.ensures at c.is_entry.ensures in
+    let on = row_at c.args.point.now _ _ (part c.args.parts.now l.place) _ _ (get_or c.args.row.now l.place (pos 0)) c.is_entry.result here there same l.invariant.fit in
     record { fit = on.fit; rest = rw c.if-not-is_entry.false at (sym on.turn) ∙ l.invariant.rest }
 
 pub are_numbers-returns-then-not-is_entry : goal.are_numbers-returns-then-not-is_entry
 are_numbers-returns-then-not-is_entry t c =
     let l = c.loop-place in
-    let x = c.index-parts-place.result in
-    let here = drop_here c.args.parts.now l.place x c.loop-place-test.true c.index-parts-place.is in
+    let here = part_here c.args.parts.now l.place c.loop-place-test.true in
     let there = entry_here c.args.row.now l.place (omega (arith, c.loop-place-test.true, c.if-parts-row.false)) in
-    let same = rw c.value_at.ensures at c.is_entry.ensures in
-    let on = row_at c.args.point.now _ _ x _ _ (get_or c.args.row.now l.place (pos 0)) c.is_entry.result here there same l.invariant.fit in
+    let same = rw c.number_at.ensures at c.is_entry.ensures in
+    let on = row_at c.args.point.now _ _ (part c.args.parts.now l.place) _ _ (get_or c.args.row.now l.place (pos 0)) c.is_entry.result here there same l.invariant.fit in
     rw c.if-not-is_entry.true at (sym on.turn) ∙ l.invariant.rest
 
 pub are_numbers-returns : goal.are_numbers-returns

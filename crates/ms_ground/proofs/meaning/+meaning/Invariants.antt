@@ -1,9 +1,10 @@
-use Rattle.std.proofs.Common.{◌≡◌, ◌+◌, ◌≤◌, true, Some, map, drop, pos}
+use Rattle.std.proofs.Common.{◌≡◌, ℕ, ◌+◌, ◌<◌, ◌≤◌, true, Some, None, map, length, drop, get_or, pos}
 use Rattle.ms_num.specs.Numbers.{add_at, int_eq}
 use Rattle.ms_num.specs.Span.{point}
 use Rattle.std.specs.List.{list_any, list_all}
 use Rattle.ms_trees.specs.Value.{Meaning, value, folded, extreme, selected, all_defined, how_many, compare, int_ne, all_true, any_true, first_differs, are_distinct, is_row}
 use Rattle.ms_trees.specs.Reach.{reach, points}
+use Rattle.ms_ground.specs.Kept.{part}
 use Rattle.ms_spans.specs.Access.{reaches}
 use Rattle.ms_spans.specs.Extreme.{extreme_at}
 use Rattle.ms_ground.proofs.Onward.{onward}
@@ -47,6 +48,13 @@ abbrev pub invariant-some_holds-loop-part : goal.invariant-some_holds-loop-part
 invariant-some_holds-loop-part l = record {
   fit : truths (map (checked (points l.point)) (drop l.part-index l.parts)) ≡ true;
   rest : any_true (map (value l.point) (drop l.part-index l.parts)) ≡ any_true (map (value l.point) l.parts);
+}
+
+abbrev pub invariant-first_numbers-loop-place : goal.invariant-first_numbers-loop-place
+invariant-first_numbers-loop-place l = record {
+  fit : numbers (map (checked (points l.point)) (drop l.place l.parts)) ≡ true;
+  size : length l.kept ≡ 64;
+  kept : (k : ℕ) → k < l.place → get_or l.kept k None ≡ (value l.point (part l.parts k)).number;
 }
 
 abbrev pub invariant-all_differ-loop-place : goal.invariant-all_differ-loop-place

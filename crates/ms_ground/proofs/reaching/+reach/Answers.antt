@@ -1,10 +1,12 @@
-use Rattle.std.proofs.Common.{◌≡◌, true, false, not, ◌&&◌, ◌||◌, [], Some, None, map, drop, get_or, arith, ap, ◌∙◌, sym, rules, w64, SFits}
+use Rattle.std.proofs.Common.{◌≡◌, ◌<◌, true, false, not, ◌&&◌, ◌||◌, [], Some, None, map, length, drop, get_or, arith, ap, ◌∙◌, sym, rules, w64, SFits}
 use Rattle.std.specs.Prelude.{pos, is_some, if◌then◌else◌}
 use Rattle.std.proofs.lemmas.Int.{to_z-of_z}
 use Rattle.std.proofs.lemmas.List.{drop_all}
+use Rattle.std.proofs.Math.ListN.{length-set}
 use Rattle.ms_num.specs.Span.{point, has, join_some}
 use Rattle.ms_trees.specs.Reach as r
 use Rattle.ms_trees.specs.Reach.{reach}
+use Rattle.ms_ground.specs.Kept.{numbers_of, part}
 use Rattle.ms_spans.specs.Access.{reaches}
 use Rattle.ms_spans.specs.Extreme.{extreme_span}
 use Rattle.ms_ground.proofs.Onward.{onward_on}
@@ -17,6 +19,7 @@ use Rattle.ms_ground.proofs.Walks.{counted_one, at_most_one}
 use Rattle.ms_ground.proofs.Boxes.{PlaceOn, parts_on, onward_end, join_end, place_taken, place_passed, elem_reach, elem2_reach, count_interval}
 use Rattle.ms_tree_laws.proofs.Smaller.{truth_some}
 use Rattle.ms_ground.proofs.Distinct.{spans_over, meets_on, between_room, wide_room}
+use Rattle.ms_ground.proofs.Keeping.{part_here, part_read, kept_next}
 use Rattle.ms_ground.proofs.Rowed.{no_row_on, row_on, entry_here}
 use Rattle.ms_ground.proofs.reaching.+reach.Goals as goal
 use Rattle.ms_ground.proofs.reaching.+reach.Goals.{selected_on-then-reaches, selected_on-else-reaches}
@@ -300,46 +303,58 @@ any_on-loop-part-preserved t c =
     let on = truths_on c.args.sets.now _ _ c.part-item.result c.truths_on-x.result (drop_here c.args.parts.now l.part-index c.part-item.result (omega arith) c.part-item.is) c.truths_on-x.ensures l.invariant.fit in
     record { fit = on.fit; yes = sym (on.any_yes l.yes) ∙ l.invariant.yes; no = sym (on.all_no l.no) ∙ l.invariant.no }
 
-pub truths_on-all_have_room-yes-requires : goal.truths_on-all_have_room-yes-requires
-truths_on-all_have_room-yes-requires t c = (search (rules, the_lemmas), rw c.as_slice-in-AllDiff.ensures (fit-AllDiff _ _ (rw c.in-AllDiff.is at c.requires)))
+pub truths_on-distinct_on-requires : goal.truths_on-distinct_on-requires
+truths_on-distinct_on-requires t c = (search (rules, the_lemmas), rw c.as_slice-in-AllDiff.ensures (fit-AllDiff _ _ (rw c.in-AllDiff.is at c.requires)))
 
-pub truths_on-some_meet_on-requires : goal.truths_on-some_meet_on-requires
-truths_on-some_meet_on-requires t c = (search (rules, the_lemmas), rw c.as_slice-in-AllDiff-2.ensures (fit-AllDiff _ _ (rw c.in-AllDiff.is at c.requires)))
+pub truths_on-rowed_on-requires : goal.truths_on-rowed_on-requires
+truths_on-rowed_on-requires t c = (search (rules, the_lemmas), rw c.as_slice-in-Table.ensures (fit-Table _ _ _ (rw c.in-Table.is at c.requires)))
 
-pub truths_on-some_row_on-fits-requires : goal.truths_on-some_row_on-fits-requires
-truths_on-some_row_on-fits-requires t c = (search (rules, the_lemmas), rw c.as_slice-in-Table.ensures (fit-Table _ _ _ (rw c.in-Table.is at c.requires)))
-
-pub truths_on-some_unsure_on-requires : goal.truths_on-some_unsure_on-requires
-truths_on-some_unsure_on-requires t c = (search (rules, the_lemmas), rw c.as_slice-in-Table-3.ensures (fit-Table _ _ _ (rw c.in-Table.is at c.requires)))
-
-pub all_have_room-loop-part-preserved : goal.all_have_room-loop-part-preserved
-all_have_room-loop-part-preserved t c =
-    let l = c.loop-part in
+pub first_reaches-loop-place-preserved : goal.first_reaches-loop-place-preserved
+first_reaches-loop-place-preserved t c =
+    let l = c.loop-place in
+    let x = c.index-parts-place.result in
     let q = c.numbers_on.result in
+    let lt : l.place < length c.args.parts.now = omega (arith, c.loop-place-test.true, c.min-place-end.ensures) in
+    let room : l.place < length l.kept = omega (arith, c.loop-place-test.true, c.min-place-end.ensures, l.invariant.size) in
+    let on = parts_on c.args.sets.now _ _ x q (drop_here c.args.parts.now l.place x lt c.index-parts-place.is) c.numbers_on.ensures l.invariant.fit in
+    let same = c.numbers_on.ensures ∙ ap (numbers_of c.args.sets.now) (part_read c.args.parts.now l.place x lt c.index-parts-place.is) in
+    record {
+      fit = on.fit;
+      size = length-set l.kept l.place q ∙ l.invariant.size;
+      kept = kept_next l.kept (r.numeric None false) q (λ k. numbers_of c.args.sets.now (part c.args.parts.now k)) l.place room same l.invariant.kept;
+    }
+
+pub first_reaches-returns : goal.first_reaches-returns
+first_reaches-returns t c = λ k few lt. c.loop-place.invariant.kept k (omega (arith, c.loop-place-test.false, c.min-place-end.ensures, c.loop-place.invariant.size, few, lt))
+
+pub all_have_room-loop-place-preserved : goal.all_have_room-loop-place-preserved
+all_have_room-loop-place-preserved t c =
+    let l = c.loop-place in
+    let q = c.reach_at.result in
     let rs = map (reach c.args.sets.now) c.args.parts.now in
-    let on = spans_over c.args.sets.now _ _ c.part-item.result q (drop_here c.args.parts.now l.part-index c.part-item.result (omega arith) c.part-item.is) c.numbers_on.ensures l.invariant.fit in
+    let on = spans_over c.args.sets.now _ _ (part c.args.parts.now l.place) q (part_here c.args.parts.now l.place c.loop-place-test.true) c.reach_at.ensures l.invariant.fit in
     let some : is_some q.numbers ≡ true = ap (λ o. is_some o) c.in-Some.is in
     let room : r.room_from rs q.numbers ≡ true = ap (r.room_from rs) c.in-Some.is ∙ sym c.has_room_from.ensures ∙ c.if-not-has_room_from.false in
     record { fit = on.fit; rest = sym (ap2 (λ x y. x && y) (on.all (λ o. is_some o) true (sym some)) (on.all (r.room_from rs) true (sym room))) ∙ l.invariant.rest }
 
-pub has_room_from-loop-part-preserved : goal.has_room_from-loop-part-preserved
-has_room_from-loop-part-preserved t c =
-    let l = c.loop-part in
-    let q = c.numbers_on.result in
+pub has_room_from-loop-place-preserved : goal.has_room_from-loop-place-preserved
+has_room_from-loop-place-preserved t c =
+    let l = c.loop-place in
+    let q = c.reach_at.result in
     let rs = map (reach c.args.sets.now) c.args.parts.now in
-    let on = spans_over c.args.sets.now _ _ c.part-item.result q (drop_here c.args.parts.now l.part-index c.part-item.result (omega arith) c.part-item.is) c.numbers_on.ensures l.invariant.fit in
+    let on = spans_over c.args.sets.now _ _ (part c.args.parts.now l.place) q (part_here c.args.parts.now l.place c.loop-place-test.true) c.reach_at.ensures l.invariant.fit in
     let room = rw c.between-range.ensures at c.has_room_on.ensures ∙ between_room rs c.args.start q.numbers in
     record { fit = on.fit; rest = rw c.if-not-has_room_on.false at (sym (on.all (λ o. not (r.compare (λ s t. not (r.has_room s.lo t.hi rs)) (Some c.args.start) o)) c.has_room_on.result room)) ∙ l.invariant.rest }
 
 pub has_room_on-returns-then-has_many : goal.has_room_on-returns-then-has_many
 has_room_on-returns-then-has_many t c = rw c.in-Some.is (wide_room c.in-Some.range c.args.sets.now c.args.parts.now (sym c.has_many.ensures.value ∙ c.if-has_many.true))
 
-pub has_room_on-loop-part-preserved : goal.has_room_on-loop-part-preserved
-has_room_on-loop-part-preserved t c =
-    let l = c.loop-part in
-    let q = c.numbers_on.result in
+pub has_room_on-loop-place-preserved : goal.has_room_on-loop-place-preserved
+has_room_on-loop-place-preserved t c =
+    let l = c.loop-place in
+    let q = c.reach_at.result in
     let range = c.in-Some.range in
-    let on = parts_on c.args.sets.now _ _ c.part-item.result q (drop_here c.args.parts.now l.part-index c.part-item.result (omega arith) c.part-item.is) c.numbers_on.ensures l.invariant.fit in
+    let on = parts_on c.args.sets.now _ _ (part c.args.parts.now l.place) q (part_here c.args.parts.now l.place c.loop-place-test.true) c.reach_at.ensures l.invariant.fit in
     let one : c.one_if-held.result ≡ (if r.test (lies_in range) q.numbers then 1 else 0) = rw c.lies_in.ensures at c.one_if-held.ensures in
     let few = at_most_one (r.test (lies_in range) q.numbers) c.one_if-held.result one in
     record {
@@ -357,28 +372,25 @@ some_meet_on-loop-place-preserved t c =
 
 pub first_meets_on-loop-later-init : goal.first_meets_on-loop-later-init
 first_meets_on-loop-later-init t c =
-    let x = c.index-parts-place.result in
-    let on = spans_over c.args.sets.now _ _ x c.numbers_on-x.result (drop_here c.args.parts.now c.args.place x c.requires.place c.index-parts-place.is) c.numbers_on-x.ensures c.requires.fit in
+    let on = spans_over c.args.sets.now _ _ (part c.args.parts.now c.args.place) c.reach_at-x.result (part_here c.args.parts.now c.args.place c.requires.place) c.reach_at-x.ensures c.requires.fit in
     record { fit = on.fit; rest = rw c.if-x.false at (sym on.first) }
 
 pub first_meets_on-loop-later-preserved : goal.first_meets_on-loop-later-preserved
 first_meets_on-loop-later-preserved t c =
     let l = c.loop-later in
-    let x = c.index-parts-later.result in
-    let on = spans_over c.args.sets.now _ _ x c.numbers_on.result (drop_here c.args.parts.now l.later x c.loop-later-test.true c.index-parts-later.is) c.numbers_on.ensures l.invariant.fit in
-    record { fit = on.fit; rest = rw c.if-meets.false at (sym (on.any (λ o. r.compare r.meets c.numbers_on-x.result.numbers o) c.meets.result c.meets.ensures)) ∙ l.invariant.rest }
+    let on = spans_over c.args.sets.now _ _ (part c.args.parts.now l.later) c.reach_at.result (part_here c.args.parts.now l.later c.loop-later-test.true) c.reach_at.ensures l.invariant.fit in
+    record { fit = on.fit; rest = rw c.if-meets.false at (sym (on.any (λ o. r.compare r.meets c.reach_at-x.result.numbers o) c.meets.result c.meets.ensures)) ∙ l.invariant.rest }
 
 pub first_meets_on-returns-then-meets : goal.first_meets_on-returns-then-meets
 first_meets_on-returns-then-meets t c =
     let l = c.loop-later in
-    let x = c.index-parts-later.result in
-    let on = spans_over c.args.sets.now _ _ x c.numbers_on.result (drop_here c.args.parts.now l.later x c.loop-later-test.true c.index-parts-later.is) c.numbers_on.ensures l.invariant.fit in
-    rw c.if-meets.true at (sym (on.any (λ o. r.compare r.meets c.numbers_on-x.result.numbers o) c.meets.result c.meets.ensures)) ∙ l.invariant.rest
+    let on = spans_over c.args.sets.now _ _ (part c.args.parts.now l.later) c.reach_at.result (part_here c.args.parts.now l.later c.loop-later-test.true) c.reach_at.ensures l.invariant.fit in
+    rw c.if-meets.true at (sym (on.any (λ o. r.compare r.meets c.reach_at-x.result.numbers o) c.meets.result c.meets.ensures)) ∙ l.invariant.rest
 
-pub some_unsure_on-loop-part-preserved : goal.some_unsure_on-loop-part-preserved
-some_unsure_on-loop-part-preserved t c =
-    let l = c.loop-part in
-    let on = spans_over c.args.sets.now _ _ c.part-item.result c.numbers_on.result (drop_here c.args.parts.now l.part-index c.part-item.result (omega arith) c.part-item.is) c.numbers_on.ensures l.invariant.fit in
+pub some_unsure_on-loop-place-preserved : goal.some_unsure_on-loop-place-preserved
+some_unsure_on-loop-place-preserved t c =
+    let l = c.loop-place in
+    let on = spans_over c.args.sets.now _ _ (part c.args.parts.now l.place) c.reach_at.result (part_here c.args.parts.now l.place c.loop-place-test.true) c.reach_at.ensures l.invariant.fit in
     let sure = sym c.is_unsure.ensures ∙ c.if-is_unsure.false in
     record { fit = on.fit; rest = rw sure at (sym on.unsure) ∙ l.invariant.rest }
 
@@ -388,17 +400,15 @@ admit_row-returns-then-parts-row t c = no_row_on c.args.sets.now c.args.parts.no
 pub admit_row-loop-place-preserved : goal.admit_row-loop-place-preserved
 admit_row-loop-place-preserved t c =
     let l = c.loop-place in
-    let x = c.index-parts-place.result in
-    let here = drop_here c.args.parts.now l.place x c.loop-place-test.true c.index-parts-place.is in
+    let here = part_here c.args.parts.now l.place c.loop-place-test.true in
     let there = entry_here c.args.row.now l.place (omega (arith, c.loop-place-test.true, c.if-parts-row.false)) in
-    let on = row_on c.args.sets.now _ _ x c.numbers_on.result _ _ (get_or c.args.row.now l.place (pos 0)) c.admits.result here there c.numbers_on.ensures c.admits.ensures l.invariant.fit in
+    let on = row_on c.args.sets.now _ _ (part c.args.parts.now l.place) c.reach_at.result _ _ (get_or c.args.row.now l.place (pos 0)) c.admits.result here there c.reach_at.ensures c.admits.ensures l.invariant.fit in
     record { fit = on.fit; rest = rw c.if-not-admits.false at (sym on.turn) ∙ l.invariant.rest }
 
 pub admit_row-returns-then-not-admits : goal.admit_row-returns-then-not-admits
 admit_row-returns-then-not-admits t c =
     let l = c.loop-place in
-    let x = c.index-parts-place.result in
-    let here = drop_here c.args.parts.now l.place x c.loop-place-test.true c.index-parts-place.is in
+    let here = part_here c.args.parts.now l.place c.loop-place-test.true in
     let there = entry_here c.args.row.now l.place (omega (arith, c.loop-place-test.true, c.if-parts-row.false)) in
-    let on = row_on c.args.sets.now _ _ x c.numbers_on.result _ _ (get_or c.args.row.now l.place (pos 0)) c.admits.result here there c.numbers_on.ensures c.admits.ensures l.invariant.fit in
+    let on = row_on c.args.sets.now _ _ (part c.args.parts.now l.place) c.reach_at.result _ _ (get_or c.args.row.now l.place (pos 0)) c.admits.result here there c.reach_at.ensures c.admits.ensures l.invariant.fit in
     rw c.if-not-admits.true at (sym on.turn) ∙ l.invariant.rest

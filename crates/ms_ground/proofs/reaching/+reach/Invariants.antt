@@ -1,10 +1,11 @@
-use Rattle.std.proofs.Common.{◌≡◌, ◌+◌, ◌≤◌, true, not, ◌&&◌, ◌||◌, Some, map, drop}
+use Rattle.std.proofs.Common.{◌≡◌, ℕ, ◌+◌, ◌<◌, ◌≤◌, true, false, not, ◌&&◌, ◌||◌, Some, None, map, length, drop, get_or}
 use Rattle.std.specs.Prelude.{pos}
 use Rattle.ms_num.specs.Span.{add_span, point, join_some}
 use Rattle.ms_trees.specs.Value.{how_many}
 use Rattle.std.specs.List.{list_any, list_all}
 use Rattle.ms_spans.specs.Room.{first_meets}
-use Rattle.ms_trees.specs.Reach.{reach, folded, any_undefined, all_yes, any_no, any_yes, all_no, all_some, extreme, joined, reached_undefined, compare, same_single, meets, has_room, room_from, held, some_meet, some_several, may_be_row}
+use Rattle.ms_trees.specs.Reach.{reach, folded, any_undefined, all_yes, any_no, any_yes, all_no, all_some, extreme, joined, reached_undefined, compare, same_single, meets, has_room, room_from, held, some_meet, some_several, may_be_row, numeric}
+use Rattle.ms_ground.specs.Kept.{numbers_of, part}
 use Rattle.ms_spans.specs.Access.{reaches}
 use Rattle.ms_spans.specs.Extreme.{extreme_span}
 use Rattle.ms_ground.proofs.Onward.{onward_on}
@@ -58,25 +59,32 @@ invariant-any_on-loop-part l = record {
   no : (l.no && all_no (map (reach l.sets) (drop l.part-index l.parts))) ≡ all_no (map (reach l.sets) l.parts);
 }
 
-abbrev pub invariant-all_have_room-loop-part : goal.invariant-all_have_room-loop-part
-invariant-all_have_room-loop-part l = record {
-  fit : numbers (map (checked l.sets) (drop l.part-index l.parts)) ≡ true;
-  rest : (all_some (map (reach l.sets) (drop l.part-index l.parts)) && list_all (λ (x : Reach). room_from (map (reach l.sets) l.parts) x.numbers) (map (reach l.sets) (drop l.part-index l.parts)))
+abbrev pub invariant-first_reaches-loop-place : goal.invariant-first_reaches-loop-place
+invariant-first_reaches-loop-place l = record {
+  fit : numbers (map (checked l.sets) (drop l.place l.parts)) ≡ true;
+  size : length l.kept ≡ 64;
+  kept : (k : ℕ) → k < l.place → get_or l.kept k (numeric None false) ≡ numbers_of l.sets (part l.parts k);
+}
+
+abbrev pub invariant-all_have_room-loop-place : goal.invariant-all_have_room-loop-place
+invariant-all_have_room-loop-place l = record {
+  fit : numbers (map (checked l.sets) (drop l.place l.parts)) ≡ true;
+  rest : (all_some (map (reach l.sets) (drop l.place l.parts)) && list_all (λ (x : Reach). room_from (map (reach l.sets) l.parts) x.numbers) (map (reach l.sets) (drop l.place l.parts)))
       ≡ (all_some (map (reach l.sets) l.parts) && list_all (λ (x : Reach). room_from (map (reach l.sets) l.parts) x.numbers) (map (reach l.sets) l.parts));
 }
 
-abbrev pub invariant-has_room_from-loop-part : goal.invariant-has_room_from-loop-part
-invariant-has_room_from-loop-part l = record {
-  fit : numbers (map (checked l.sets) (drop l.part-index l.parts)) ≡ true;
-  rest : list_all (λ (x : Reach). not (compare (λ s t. not (has_room s.lo t.hi (map (reach l.sets) l.parts))) (Some l.start) x.numbers)) (map (reach l.sets) (drop l.part-index l.parts))
+abbrev pub invariant-has_room_from-loop-place : goal.invariant-has_room_from-loop-place
+invariant-has_room_from-loop-place l = record {
+  fit : numbers (map (checked l.sets) (drop l.place l.parts)) ≡ true;
+  rest : list_all (λ (x : Reach). not (compare (λ s t. not (has_room s.lo t.hi (map (reach l.sets) l.parts))) (Some l.start) x.numbers)) (map (reach l.sets) (drop l.place l.parts))
       ≡ room_from (map (reach l.sets) l.parts) (Some l.start);
 }
 
-abbrev pub invariant-has_room_on-loop-part : goal.invariant-has_room_on-loop-part
-invariant-has_room_on-loop-part l = record {
-  fit : numbers (map (checked l.sets) (drop l.part-index l.parts)) ≡ true;
-  few : l.held ≤ l.part-index;
-  rest : l.held + held l.range.lo l.range.hi (map (reach l.sets) (drop l.part-index l.parts)) ≡ held l.range.lo l.range.hi (map (reach l.sets) l.parts);
+abbrev pub invariant-has_room_on-loop-place : goal.invariant-has_room_on-loop-place
+invariant-has_room_on-loop-place l = record {
+  fit : numbers (map (checked l.sets) (drop l.place l.parts)) ≡ true;
+  few : l.held ≤ l.place;
+  rest : l.held + held l.range.lo l.range.hi (map (reach l.sets) (drop l.place l.parts)) ≡ held l.range.lo l.range.hi (map (reach l.sets) l.parts);
 }
 
 abbrev pub invariant-some_meet_on-loop-place : goal.invariant-some_meet_on-loop-place
@@ -100,8 +108,8 @@ invariant-admit_row-loop-place l = record {
   rest : may_be_row (map (reach l.sets) (drop l.place l.parts)) (drop l.place l.row) ≡ may_be_row (map (reach l.sets) l.parts) l.row;
 }
 
-abbrev pub invariant-some_unsure_on-loop-part : goal.invariant-some_unsure_on-loop-part
-invariant-some_unsure_on-loop-part l = record {
-  fit : numbers (map (checked l.sets) (drop l.part-index l.parts)) ≡ true;
-  rest : (any_undefined (map (reach l.sets) (drop l.part-index l.parts)) || some_several (map (reach l.sets) (drop l.part-index l.parts))) ≡ (any_undefined (map (reach l.sets) l.parts) || some_several (map (reach l.sets) l.parts));
+abbrev pub invariant-some_unsure_on-loop-place : goal.invariant-some_unsure_on-loop-place
+invariant-some_unsure_on-loop-place l = record {
+  fit : numbers (map (checked l.sets) (drop l.place l.parts)) ≡ true;
+  rest : (any_undefined (map (reach l.sets) (drop l.place l.parts)) || some_several (map (reach l.sets) (drop l.place l.parts))) ≡ (any_undefined (map (reach l.sets) l.parts) || some_several (map (reach l.sets) l.parts));
 }
