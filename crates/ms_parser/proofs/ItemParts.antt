@@ -16,7 +16,7 @@ use Rattle.ms_expressions.specs.declared.reach.Reach.TheVariants as reach
 use Rattle.ms_expressions.specs.Reading.{pair, into, placed}
 use Rattle.ms_syntax.specs.Kind.{is_symbol, is_keyword}
 use Rattle.ms_expressions.specs.Kinds.{a_text, symbol, keyword, when}
-use Rattle.ms_expressions.specs.Rules.{a_word, past_declaration, notes, kind, declaration, under, a_string, past_condition, past_solve, if_name, name_list, last_value, elements, parameter, more_parameters, parameter_list, parameters, constrained, goal, solved}
+use Rattle.ms_expressions.specs.Rules.{a_word, past_declaration, notes, kind, under, a_string, past_condition, past_solve, if_name, name_list, last_value, elements, parameter, more_parameters, parameter_list, parameters, constrained, goal, solved}
 use Rattle.ms_parser.proofs.Classes.{text_class, symbol_class, keyword_class}
 use Rattle.ms_parser.proofs.Exact.{Exact, Seq, Just, One, Cases, Many, nobody, append_nil}
 use Rattle.ms_parser.proofs.Choices.{either}

@@ -1,7 +1,5 @@
 -- The rules of items, where no bracket is open: 200 may open.
 use Rattle.std.specs.Prelude.{ℕ, List, Option}
-use Rattle.ms_syntax.specs.declared.token.Token.{Token}
-use Rattle.ms_syntax.specs.declared.token.Keyword.TheVariants as k
 use Rattle.ms_syntax.specs.declared.token.Symbol.TheVariants as s
 use Rattle.ms_syntax.specs.declared.token.Place.{Place}
 use Rattle.ms_syntax.specs.declared.tree.Mode.TheVariants as m

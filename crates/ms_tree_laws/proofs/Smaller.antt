@@ -7,7 +7,6 @@ use Rattle.ms_num.specs.Numbers.{div_at, mod_at}
 use Rattle.ms_num.specs.Span.{Span, Inside, point, has, neg_span, abs_span, add_span, sub_span, mul_span, min_span, max_span, div_span, mod_span}
 use Rattle.ms_tree_laws.specs.Laws.{Numbers, Truths, Less, Smaller}
 use Rattle.ms_trees.specs.Value as v
-use Rattle.ms_trees.specs.Value.{how_many}
 use Rattle.ms_trees.specs.Reach as r
 use Rattle.ms_trees.specs.Reach.{reach, reach_step, span_at}
 use Rattle.ms_trees.specs.Fit.{Checked, fit_rule, is_fit, is_numeric, numeric_layer, number, truth, numbers, truths, has_variable, IsTruth}

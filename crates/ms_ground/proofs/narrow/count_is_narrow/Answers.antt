@@ -1,7 +1,6 @@
 use Rattle.std.proofs.Common.{◌≡◌, true, not, arith, ap, sym, ◌∙◌}
 use Rattle.std.specs.Prelude.{is_some, if◌then◌else◌}
 use Rattle.ms_trees.specs.Reach as r
-use Rattle.ms_trees.specs.Reach.{reach}
 use Rattle.ms_tree_laws.proofs.Fits.{drop_here}
 use Rattle.ms_ground.proofs.Walks.{counted_one, at_most_one}
 use Rattle.ms_ground.proofs.Boxes.{parts_on}
