@@ -3,6 +3,7 @@ ghost use Rattle.ms_num.specs.Numbers.{div_at, mod_at, int_eq};
 ghost use Rattle.ms_trees.specs.Value.{iff, int_ne, compare, pair as pair_of, test};
 ghost use Rattle.ms_trees.specs.Fit.{IsWithin};
 
+/// The sum, which stays within the limits.
 pub fn sum(x: i64, y: i64) -> i64
     requires { IsWithin (x +ℤ y) }
     ensures { result ≡ x +ℤ y }
@@ -10,6 +11,7 @@ pub fn sum(x: i64, y: i64) -> i64
     x + y
 }
 
+/// The difference, which stays within the limits.
 pub fn difference(x: i64, y: i64) -> i64
     requires { IsWithin (x -ℤ y) }
     ensures { result ≡ x -ℤ y }
@@ -17,6 +19,7 @@ pub fn difference(x: i64, y: i64) -> i64
     x - y
 }
 
+/// The product, which stays within the limits.
 pub fn product(x: i64, y: i64) -> i64
     requires { IsWithin (x *ℤ y) }
     ensures { result ≡ x *ℤ y }
@@ -40,6 +43,7 @@ pub fn remainder(x: i64, y: i64) -> Option<i64>
     if y == 0 { None } else { Some(x % y) }
 }
 
+/// The negation.
 pub fn negated(x: i64) -> i64
     requires { IsWithin x }
     ensures { result ≡ neg_ℤ x }
@@ -47,6 +51,7 @@ pub fn negated(x: i64) -> i64
     -x
 }
 
+/// The absolute value.
 pub fn magnitude(x: i64) -> i64
     requires { IsWithin x }
     ensures { result ≡ pos (unsigned_abs x) }
@@ -85,6 +90,7 @@ pub fn is_entry(x: Option<i64>, row: &[i64], place: usize) -> bool
     }
 }
 
+/// Both are true, or both are false.
 pub fn are_equal(x: bool, y: bool) -> bool
     ensures { result ≡ iff x y }
 {
@@ -98,6 +104,7 @@ pub fn one_if_same(x: i64, n: i64) -> usize
     if x == n { 1 } else { 0 }
 }
 
+/// 1 where the test holds, else 0.
 pub fn one_if(b: bool) -> usize
     ensures { result ≡ (if b then 1 else 0) }
 {

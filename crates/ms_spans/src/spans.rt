@@ -7,6 +7,7 @@ ghost use Rattle.ms_trees.specs.Fit.{fits};
 use ms_num::{Iv, Ranges};
 use ms_trees::Reach;
 
+/// What an integer part may mean: its numbers, if any, and whether it may be undefined.
 pub fn numeric(numbers: Option<Iv>, undefined: bool) -> Reach
     ensures { result ≡ numeric_of numbers undefined }
 {
@@ -18,6 +19,7 @@ pub fn numeric(numbers: Option<Iv>, undefined: bool) -> Reach
     }
 }
 
+/// What a Boolean part may mean: whether it may be true, and whether false.
 pub fn boolean(yes: bool, no: bool) -> Reach
     ensures { result ≡ boolean_of yes no }
 {
@@ -29,6 +31,7 @@ pub fn boolean(yes: bool, no: bool) -> Reach
     }
 }
 
+/// The least interval of the sums, where both have numbers.
 pub fn sum(x: Option<Iv>, y: Option<Iv>) -> Option<Iv>
     requires { IsTrue (fits (both add_span x y)) }
     ensures { result ≡ both add_span x y }
@@ -39,6 +42,7 @@ pub fn sum(x: Option<Iv>, y: Option<Iv>) -> Option<Iv>
     }
 }
 
+/// The least interval of the differences, where both have numbers.
 pub fn difference(x: Option<Iv>, y: Option<Iv>) -> Option<Iv>
     requires { IsTrue (fits (both sub_span x y)) }
     ensures { result ≡ both sub_span x y }
@@ -49,6 +53,7 @@ pub fn difference(x: Option<Iv>, y: Option<Iv>) -> Option<Iv>
     }
 }
 
+/// The least interval of the products, where both have numbers.
 pub fn product(x: Option<Iv>, y: Option<Iv>) -> Option<Iv>
     requires { IsTrue (fits (both mul_span x y)) }
     ensures { result ≡ both mul_span x y }
@@ -59,6 +64,7 @@ pub fn product(x: Option<Iv>, y: Option<Iv>) -> Option<Iv>
     }
 }
 
+/// What the quotient, cut toward zero, may mean; undefined also where the divisor may be 0.
 pub fn quotient(x: Reach, y: Reach) -> Reach
     ensures { result ≡ division div_span x y }
 {
@@ -75,6 +81,7 @@ fn quotients(x: Option<Iv>, y: Option<Iv>) -> Option<Iv>
     }
 }
 
+/// What the remainder, with the sign of `x`, may mean; undefined also where the divisor may be 0.
 pub fn remainder(x: Reach, y: Reach) -> Reach
     ensures { result ≡ division mod_span x y }
 {
@@ -100,6 +107,7 @@ fn may_be_zero(x: Option<Iv>) -> bool
     }
 }
 
+/// What the negation may mean.
 pub fn negated(x: Reach) -> Reach
     ensures { result ≡ image neg_span x }
 {
@@ -110,6 +118,7 @@ pub fn negated(x: Reach) -> Reach
     numeric(numbers, x.undefined)
 }
 
+/// What the absolute value may mean.
 pub fn magnitude(x: Reach) -> Reach
     ensures { result ≡ image abs_span x }
 {
@@ -120,6 +129,7 @@ pub fn magnitude(x: Reach) -> Reach
     numeric(numbers, x.undefined)
 }
 
+/// The interval of 1 for true and 0 for false.
 pub fn bits(yes: bool, no: bool) -> Iv
     requires { IsTrue (yes || no) }
     ensures { result ≡ bits_of yes no }
@@ -174,6 +184,7 @@ pub fn either_of_truths(condition: Reach, x: Reach, y: Reach) -> Reach
     )
 }
 
+/// The truth values of `x <-> y`.
 pub fn equivalence(x: Reach, y: Reach) -> Reach
     ensures { result ≡ combined iff x y }
 {
@@ -183,6 +194,7 @@ pub fn equivalence(x: Reach, y: Reach) -> Reach
     )
 }
 
+/// The truth values of `x -> y`.
 pub fn implication(x: Reach, y: Reach) -> Reach
     ensures { result ≡ combined imp x y }
 {
@@ -192,6 +204,7 @@ pub fn implication(x: Reach, y: Reach) -> Reach
     )
 }
 
+/// The truth values of `x xor y`.
 pub fn exclusive(x: Reach, y: Reach) -> Reach
     ensures { result ≡ combined xor x y }
 {
@@ -201,6 +214,7 @@ pub fn exclusive(x: Reach, y: Reach) -> Reach
     )
 }
 
+/// The truth values of `x = y`, which is false where a part is undefined, as each comparison.
 pub fn equal(x: Reach, y: Reach) -> Reach
     ensures { result ≡ comparison meets_of differ_of x y }
 {
@@ -208,6 +222,7 @@ pub fn equal(x: Reach, y: Reach) -> Reach
     boolean(meets(x.numbers, y.numbers), no)
 }
 
+/// The truth values of `x != y`.
 pub fn unequal(x: Reach, y: Reach) -> Reach
     ensures { result ≡ comparison differ_of meets_of x y }
 {
@@ -215,6 +230,7 @@ pub fn unequal(x: Reach, y: Reach) -> Reach
     boolean(may_differ(x.numbers, y.numbers), no)
 }
 
+/// The truth values of `x < y`.
 pub fn less(x: Reach, y: Reach) -> Reach
     ensures { result ≡ comparison less_of at_least_of x y }
 {
@@ -222,6 +238,7 @@ pub fn less(x: Reach, y: Reach) -> Reach
     boolean(may_be_less(x.numbers, y.numbers), no)
 }
 
+/// The truth values of `x <= y`.
 pub fn at_most(x: Reach, y: Reach) -> Reach
     ensures { result ≡ comparison at_most_of greater_of x y }
 {
@@ -229,6 +246,7 @@ pub fn at_most(x: Reach, y: Reach) -> Reach
     boolean(may_be_at_most(x.numbers, y.numbers), no)
 }
 
+/// Both have intervals, and these share a number.
 pub fn meets(x: Option<Iv>, y: Option<Iv>) -> bool
     ensures { result ≡ compare meets_of x y }
 {
@@ -283,6 +301,7 @@ fn may_be_greater(x: Option<Iv>, y: Option<Iv>) -> bool
     }
 }
 
+/// Both are the same single number.
 pub fn are_one(x: Option<Iv>, y: Option<Iv>) -> bool
     ensures { result ≡ compare same_single x y }
 {
