@@ -474,6 +474,90 @@ fn deep_trees_are_walked(rt: HostRuntime) -> Result<(), Fail> {
     Ok(())
 }
 
+/// A variable in a list in a list, so many times: of each list the second part is the number.
+fn nested(
+    alloc: Global,
+    list: List,
+    second: i16,
+    times: usize,
+) -> Result<Option<Ground>, AllocError> {
+    let mut words = Vec::new(alloc);
+    words.push(X)?;
+    for _ in 0..times {
+        words.push(Word::Num(second))?;
+        words.push(Word::All(list, 2))?;
+        words.push(TO_INT)?;
+    }
+    tree(alloc, &words)
+}
+
+/// Whether the tree is 1 where the first variable is, 0 where that is 2, and one of them on the box.
+fn tells_one(g: &Ground) -> bool {
+    number_at(g, 1, 0, 0) == Some(Some(1))
+        && number_at(g, 2, 0, 0) == Some(Some(0))
+        && is_interval(numbers_on(g, &table_box()), 0, 1)
+}
+
+// With three questions to a part at each level, no computer would come to the end.
+#[test]
+fn nested_lists_ask_each_part_once(rt: HostRuntime) -> Result<(), Fail> {
+    for (list, second) in [(List::AllDiff, 1), (List::Table, -1)] {
+        let g = nested(rt.alloc(), list, second, 248)?.expect(&rt, "a tree");
+        assert!(rt; tells_one(&g));
+    }
+    Ok(())
+}
+
+/// The numbers from 100 to 168 and one part more are to be distinct.
+fn long(alloc: Global, last: Word) -> Result<Option<Ground>, AllocError> {
+    let mut words = Vec::new(alloc);
+    for number in 100..169i16 {
+        words.push(Word::Num(number))?;
+    }
+    words.push(last)?;
+    words.push(Word::All(List::AllDiff, 70))?;
+    tree(alloc, &words)
+}
+
+const LAST: [(Word, &str); 3] = [(X, "t"), (Word::Num(100), "f"), (Word::Num(167), "f")];
+
+#[test]
+fn parts_of_long_lists_differ(rt: HostRuntime) -> Result<(), Fail> {
+    for (last, want) in LAST {
+        let g = long(rt.alloc(), last)?.expect(&rt, "a tree");
+        assert_eq!(rt; truths_text(&g, &table_box()), want);
+        assert_eq!(rt; truth_text(truth_at(&g, 1, 0, 0)), want);
+    }
+    Ok(())
+}
+
+// Of 0..10000000 the square is at most 10^14, and the cube 10^21.
+const POWERS: [(&[Word], bool); 3] = [
+    (&[Word::Num(0), X, X, MUL, LT], true),
+    (&[Word::Num(0), X, X, MUL, X, MUL, LT], false),
+    (&[Word::Num(0), X, X, MUL, X, MUL, X, MUL, LT], false),
+];
+
+#[test]
+fn powers_are_narrow(rt: HostRuntime) -> Result<(), Fail> {
+    for (words, want) in POWERS {
+        let g = tree(rt.alloc(), words)?.expect(&rt, "a tree");
+        assert_eq!(rt; is_fit(&g, &[Iv::new(0, 10000000)]), want);
+    }
+    Ok(())
+}
+
+// Where the divisor is 0 the comparison is false, and its negation true.
+#[test]
+fn negated_comparison_holds_where_undefined(rt: HostRuntime) -> Result<(), Fail> {
+    let words = [Word::Num(4), X, DIV, Word::Num(2), EQ, NOT];
+    let g = tree(rt.alloc(), &words)?.expect(&rt, "a tree");
+    assert_eq!(rt; truth_text(truth_at(&g, 0, 0, 0)), "t");
+    assert_eq!(rt; truth_text(truth_at(&g, 1, 0, 0)), "t");
+    assert_eq!(rt; truth_text(truth_at(&g, 2, 0, 0)), "f");
+    Ok(())
+}
+
 fn is_interval(numbers: Option<Numbers>, lo: i64, hi: i64) -> bool {
     match numbers {
         Some((Some((least, greatest)), false)) => least == lo && greatest == hi,
