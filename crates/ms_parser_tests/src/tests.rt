@@ -1,6 +1,7 @@
 //! Texts, their tokens divided by spaces: a word of the language, a mark, a number, a text, and else a name.
 
 mod models;
+mod shapes;
 
 use ms_parser::{ParseFault, statement};
 use ms_syntax::{Keyword, Place, Spanned, Symbol, Token, Word};
@@ -119,49 +120,6 @@ pub fn tokens(alloc: Global, text: &str) -> Result<Vec<Spanned>, AllocError> {
 }
 
 #[test]
-fn reads_each_form(rt: HostRuntime) -> Result<(), AllocError> {
-    let cases = [
-        "1",
-        "a",
-        "true",
-        "f ( )",
-        "f ( a , 1 )",
-        "f ( i in s ) ( e )",
-        "f ( i , j in 1 .. 2 , k in s where c ) ( e + 1 )",
-        "( a )",
-        "[ ]",
-        "[ a ]",
-        "[ a , b , c ]",
-        "[ a | i in s ]",
-        "[ a | i , j in s , k in t where c ]",
-        "[| |]",
-        "[| a , b | c , d |]",
-        "{ }",
-        "{ a , b }",
-        "if a then b else c endif",
-        "if a then b elseif c then d elseif e then f else g endif",
-        "a [ 1 ]",
-        "a [ 1 , 2 ] [ 3 ]",
-        "not a = b",
-        "- x [ 1 ]",
-        "7 - 2 - 1",
-        "a ++ b ++ c",
-        "a <-> b -> c <- d \\/ e xor f /\\ g = h",
-        "a in 1 .. 2 + 3 * 4 div 5 mod 6",
-        "let { int : a } in a",
-        "let { var 1 .. 2 : a = 1 ; set of int : b :: n ( a ) :: m ; } in a + b",
-        "let { array [ int , 1 .. 2 ] of set of 1 .. 2 : a } in ( let { s : b ; } in b )",
-    ];
-    for case in cases {
-        match statement(rt.alloc(), &tokens(rt.alloc(), case)?) {
-            Ok(_) => {}
-            Err(_) => assert!(rt; false, "{case}"),
-        }
-    }
-    Ok(())
-}
-
-#[test]
 fn names_the_first_wrong_token(rt: HostRuntime) -> Result<(), AllocError> {
     let cases = [
         ("", 0),
@@ -175,6 +133,7 @@ fn names_the_first_wrong_token(rt: HostRuntime) -> Result<(), AllocError> {
         ("a [ ]", 2),
         ("f ( a ) ( b )", 4),
         ("f ( i in s ) ( b , c )", 8),
+        ("f ( i in s = t ) ( b )", 8),
         ("f ( i in s where c ) )", 8),
         ("f ( a where", 3),
         ("f ( a + 1 , i in s where", 9),
@@ -238,6 +197,12 @@ fn nests_so_deep(rt: HostRuntime) -> Result<(), AllocError> {
         ("{ ", "1", " }", 200),
         ("[| ", "1", " |]", 200),
         ("f ( ", "1", " )", 401),
+        (
+            "1 <-> 1 -> 1 \\/ 1 /\\ 1 = 1 in 1 .. 1 + 1 * 1 ++ - f ( ",
+            "1",
+            " )",
+            4622,
+        ),
         ("a [ ", "1", " ]", 401),
         ("if ", "1", " then 1 else 1 endif", 200),
         ("let { int : a = ", "1", " } in 1", 1201),
@@ -250,6 +215,12 @@ fn nests_so_deep(rt: HostRuntime) -> Result<(), AllocError> {
             Err(ParseFault::Deep(k)) => assert_eq!(rt; k, at, "{first}"),
             _ => assert!(rt; false, "{first}"),
         }
+    }
+    // A bracket that is too deep and cannot stand there is a wrong token.
+    let wrong = nested(rt.alloc(), "( ", "1 ( 1", " )", 200)?;
+    match statement(rt.alloc(), &wrong) {
+        Err(ParseFault::Syntax(k)) => assert_eq!(rt; k, 201),
+        _ => assert!(rt; false),
     }
     let chain = nested(rt.alloc(), "1 + ", "1", " - 1", 50000)?;
     assert!(rt; statement(rt.alloc(), &chain).is_ok());

@@ -85,6 +85,7 @@ fn reads_each_item(rt: HostRuntime) -> Result<(), AllocError> {
 #[test]
 fn names_the_first_wrong_token_of_a_model(rt: HostRuntime) -> Result<(), AllocError> {
     let cases = [
+        ("constraint a < b < c ; solve satisfy ;", 4),
         (";", 0),
         ("; int : a", 0),
         ("int : a ; ;", 4),
@@ -158,7 +159,7 @@ fn reads_data(rt: HostRuntime) -> Result<(), AllocError> {
     let cases = [
         ("", 0, false),
         ("x = 1", 1, false),
-        ("x = 1 ;", 1, true),
+        ("n = 8 ;", 1, true),
         ("x = [ 1 , 2 ] ; y = { } ; z = [| 1 | 2 |]", 3, false),
     ];
     for (case, count, closed) in cases {
