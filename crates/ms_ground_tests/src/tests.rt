@@ -6,7 +6,7 @@ ghost use Rattle.ms_num.specs.Span.{point};
 use crate::{Both, List, One, Word, tree};
 use ms_ground::{
     Branching, Ground, Order, Rows, ValueChoice, copy_trees, holds, hull, is_fit, keep_laws,
-    membership_law, nesting, size, value_at,
+    membership_law, nesting, room_law, size, value_at,
 };
 use ms_num::Iv;
 use sqlite_items::{Boxed, Items};
@@ -591,6 +591,7 @@ fn trees_are_copied_and_measured(rt: HostRuntime) -> Result<(), Fail> {
     }
     keep_laws();
     membership_law();
+    room_law();
     Ok(())
 }
 

@@ -104,6 +104,8 @@ fn reads_each_form(rt: HostRuntime) -> Result<(), AllocError> {
                 let (found, count) = shape(&tree);
                 assert_eq!(rt; found, kind, "{case}");
                 assert_eq!(rt; count, parts, "{case}");
+                let copied = tree.copy(rt.alloc())?;
+                assert_eq!(rt; shape(&copied), (kind, parts), "{case}");
             }
             Err(_) => assert!(rt; false, "{case}"),
         }
