@@ -4,8 +4,8 @@
 //! answers the one tree that the grammar writes as the tokens, with brackets and `if` nested at most
 //! [`MAX_NESTING`] deep; and else the first token with which no list of the grammar goes on, or the first that opens
 //! too deep. Each cause is told in both directions: the answer says that it holds, and where it holds the answer is
-//! it. Want of memory alone is free. The laws have what follows of trees and tokens alone: tokens are written by one
-//! expression, one model and one list of assignments at most ([`one_expression`], [`one_model`], [`one_data`]), each
+//! it. Want of memory alone is free. The laws have what follows of trees and tokens alone: tokens that nest so deep
+//! at most are written by one expression, one model and one list of assignments at most ([`one_expression`], [`one_model`], [`one_data`]), each
 //! list of tokens has an answer ([`some_answer`]), and how the operators of a chain group ([`chains_group`]).
 //!
 //! `ms_expressions` has the rules, and reads expressions by them. Here items and data are read, by plain functions,

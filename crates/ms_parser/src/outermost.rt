@@ -3,6 +3,7 @@
 ghost use Rattle.std.specs.Prelude.{◌≡◌};
 ghost use Rattle.ms_syntax.specs.Tree.{ex_view, kind_view, notes_view, declaration_view};
 ghost use Rattle.ms_expressions.specs.Reads.{Reads};
+ghost use Rattle.ms_expressions.specs.Rules.{under};
 ghost use Rattle.ms_parser.specs.Outermost as spec;
 
 use crate::expression::MAX_NESTING;
@@ -10,6 +11,7 @@ use ms_expressions::{Behind, Cursor, Grammar, ParseFault, Reach, expr};
 use ms_syntax::{Declaration, Expr, Kind, Note, Place};
 use std::alloc::Global;
 
+/// An expression.
 pub fn any(alloc: Global, tokens: &mut Cursor<'_>) -> Result<Expr, ParseFault>
     ensures { Reads ex_view (spec.any tokens.old) result tokens.new }
 {
@@ -23,12 +25,24 @@ pub fn range(alloc: Global, tokens: &mut Cursor<'_>) -> Result<Expr, ParseFault>
     expr(alloc, tokens, MAX_NESTING + 1, Reach::Range)
 }
 
+/// `expr` as a function value, which a function of another crate cannot be.
+fn nested(
+    alloc: Global,
+    tokens: &mut Cursor<'_>,
+    depth: usize,
+    reach: Reach,
+) -> Result<Expr, ParseFault>
+    ensures { Reads ex_view (under depth reach tokens.old) result tokens.new }
+{
+    expr(alloc, tokens, depth, reach)
+}
+
 /// A kind and its colon.
 pub fn kind(alloc: Global, tokens: &mut Cursor<'_>) -> Result<Kind, ParseFault>
     ensures { Reads kind_view (spec.kind tokens.old) result tokens.new }
 {
     let depth = MAX_NESTING;
-    Grammar { alloc, depth, expr }.kind(tokens)
+    Grammar { alloc, depth, expr: nested }.kind(tokens)
 }
 
 /// The kind of a parameter and its colon.
@@ -36,7 +50,7 @@ pub fn parameter_kind(alloc: Global, tokens: &mut Cursor<'_>) -> Result<Kind, Pa
     ensures { Reads kind_view (spec.parameter_kind tokens.old) result tokens.new }
 {
     let depth = MAX_NESTING - 1;
-    Grammar { alloc, depth, expr }.kind(tokens)
+    Grammar { alloc, depth, expr: nested }.kind(tokens)
 }
 
 /// Notes on such a part.
@@ -49,7 +63,7 @@ pub fn notes(
     ensures { Reads (λ v. notes_view v.items) (spec.notes behind tokens.old) result tokens.new }
 {
     let depth = MAX_NESTING;
-    Ok(Grammar { alloc, depth, expr }.notes(tokens, behind)?)
+    Ok(Grammar { alloc, depth, expr: nested }.notes(tokens, behind)?)
 }
 
 /// The rest of a declaration, behind its kind and the colon.
@@ -62,12 +76,13 @@ pub fn declared(
     ensures { Reads declaration_view (spec.declared_as place (kind_view kind) tokens.old) result tokens.new }
 {
     let depth = MAX_NESTING;
-    Grammar { alloc, depth, expr }.declared(tokens, place, kind)
+    Grammar { alloc, depth, expr: nested }.declared(tokens, place, kind)
 }
 
+/// A declaration.
 pub fn declaration(alloc: Global, tokens: &mut Cursor<'_>) -> Result<Declaration, ParseFault>
     ensures { Reads declaration_view (spec.declaration tokens.old) result tokens.new }
 {
     let depth = MAX_NESTING;
-    Grammar { alloc, depth, expr }.declaration(tokens)
+    Grammar { alloc, depth, expr: nested }.declaration(tokens)
 }
