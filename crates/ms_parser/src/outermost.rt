@@ -42,7 +42,12 @@ pub fn kind(alloc: Global, tokens: &mut Cursor<'_>) -> Result<Kind, ParseFault>
     ensures { Reads kind_view (spec.kind tokens.old) result tokens.new }
 {
     let depth = MAX_NESTING;
-    Grammar { alloc, depth, expr: nested }.kind(tokens)
+    Grammar {
+        alloc,
+        depth,
+        expr: nested,
+    }
+    .kind(tokens)
 }
 
 /// The kind of a parameter and its colon.
@@ -50,7 +55,12 @@ pub fn parameter_kind(alloc: Global, tokens: &mut Cursor<'_>) -> Result<Kind, Pa
     ensures { Reads kind_view (spec.parameter_kind tokens.old) result tokens.new }
 {
     let depth = MAX_NESTING - 1;
-    Grammar { alloc, depth, expr: nested }.kind(tokens)
+    Grammar {
+        alloc,
+        depth,
+        expr: nested,
+    }
+    .kind(tokens)
 }
 
 /// Notes on such a part.
@@ -63,7 +73,12 @@ pub fn notes(
     ensures { Reads (λ v. notes_view v.items) (spec.notes behind tokens.old) result tokens.new }
 {
     let depth = MAX_NESTING;
-    Ok(Grammar { alloc, depth, expr: nested }.notes(tokens, behind)?)
+    Ok(Grammar {
+        alloc,
+        depth,
+        expr: nested,
+    }
+    .notes(tokens, behind)?)
 }
 
 /// The rest of a declaration, behind its kind and the colon.
@@ -76,7 +91,12 @@ pub fn declared(
     ensures { Reads declaration_view (spec.declared_as place (kind_view kind) tokens.old) result tokens.new }
 {
     let depth = MAX_NESTING;
-    Grammar { alloc, depth, expr: nested }.declared(tokens, place, kind)
+    Grammar {
+        alloc,
+        depth,
+        expr: nested,
+    }
+    .declared(tokens, place, kind)
 }
 
 /// A declaration.
@@ -84,5 +104,10 @@ pub fn declaration(alloc: Global, tokens: &mut Cursor<'_>) -> Result<Declaration
     ensures { Reads declaration_view (spec.declaration tokens.old) result tokens.new }
 {
     let depth = MAX_NESTING;
-    Grammar { alloc, depth, expr: nested }.declaration(tokens)
+    Grammar {
+        alloc,
+        depth,
+        expr: nested,
+    }
+    .declaration(tokens)
 }
