@@ -8,7 +8,7 @@ use Rattle.ms_syntax.specs.declared.tree.Expr.{Expr}
 use Rattle.ms_syntax.specs.Tree as x
 use Rattle.ms_syntax.specs.Tree.{Ex, Exs, Gens, Maybe, Names, gens_of, names_view, exs_view}
 use Rattle.ms_expressions.specs.Rules.{generators_from}
-use Rattle.ms_expressions.specs.Gathering.{part_of}
+use Rattle.ms_syntax.specs.Gathering.{part_of}
 
 -- the generators that were found, before others
 abbrev pub onto : List (Names × Ex) → Gens → Gens

@@ -1,6 +1,5 @@
 pub mod Reading
 pub mod Kinds
 pub mod Rules
-pub mod Gathering
 pub mod Reads
 pub mod Behind

@@ -160,14 +160,15 @@ fn behind_range(
 ) -> Result<Item, ParseFault>
     ensures { Reads item_view (spec.behind_range place (ex_view first) tokens.old) result tokens.new }
 {
-    match first {
-        Expr::Name(at, name) => {
+    match &first {
+        Expr::Name(_, name) => {
             if tokens.takes(Symbol::Equal) {
+                let name = name.copy(alloc)?;
                 return Ok(Item::Assign(place, name, last_value(alloc, tokens)?));
             }
-            of_values(alloc, tokens, place, Expr::Name(at, name))
+            of_values(alloc, tokens, place, first)
         }
-        set => of_values(alloc, tokens, place, set),
+        _ => of_values(alloc, tokens, place, first),
     }
 }
 

@@ -2,6 +2,7 @@ pub mod Blank
 pub mod Cut
 pub mod Failing
 pub mod Form
+pub mod Gathering
 pub mod Grammar
 pub mod Grouping
 pub mod Keywords

@@ -1,3 +1,8 @@
+ghost use Rattle.std.specs.Prelude.{◌≡◌, option_map};
+ghost use Rattle.ms_syntax.specs.Tree as tree;
+ghost use Rattle.ms_syntax.specs.Tree.{ex_view, binder_view, maybe_view, link_view, one_link};
+ghost use Rattle.ms_syntax.specs.Gathering.{part_of};
+
 use crate::token::{Place, Word};
 
 /// What stands between two operands.
@@ -71,7 +76,6 @@ pub struct Binder {
 /// operators that follow it, each with its place and its operand. The place of any other node is that of its
 /// first token.
 #[cycle(ast)]
-#[derive(Drop)]
 pub enum Expr {
     /// `let { a; b } in c`: the declarations, whether a last `;` is there, and the body.
     Let(Place, Vec<Declaration>, bool, Box<Expr>),
@@ -119,6 +123,67 @@ pub enum Expr {
     Set(Place, Vec<Expr>),
     /// The condition, its branch, the further conditions with theirs, and the last branch.
     If(Place, Box<Expr>, Box<Expr>, Vec<Arm>, Box<Expr>),
+}
+
+// Written out, so that code that lets go of an expression has one call there. A derived one would put a match over
+// each variant at each such place of every crate, also where a part or a declaration that holds an expression goes.
+impl Drop for Expr {
+    #[cycle(free)]
+    fn drop(self) {
+        match self {
+            Expr::Let(_, _, _, _) => {}
+            Expr::Equivalence(_, _) => {}
+            Expr::Implication(_, _) => {}
+            Expr::Disjunction(_, _) => {}
+            Expr::Conjunction(_, _) => {}
+            Expr::Comparison(_, _) => {}
+            Expr::Membership(_, _) => {}
+            Expr::Range(_, _) => {}
+            Expr::Sum(_, _) => {}
+            Expr::Product(_, _) => {}
+            Expr::Concatenation(_, _) => {}
+            Expr::Prefix(_, _, _) => {}
+            Expr::Access(_, _, _) => {}
+            Expr::Number(_, _) => {}
+            Expr::Text(_, _) => {}
+            Expr::Truth(_, _) => {}
+            Expr::Name(_, _) => {}
+            Expr::Call(_, _, _) => {}
+            Expr::GeneratorCall(_, _, _, _) => {}
+            Expr::Parenthesis(_, _) => {}
+            Expr::Array(_, _) => {}
+            Expr::Comprehension(_, _, _) => {}
+            Expr::Rows(_, _) => {}
+            Expr::Set(_, _) => {}
+            Expr::If(_, _, _, _, _) => {}
+        }
+    }
+}
+
+impl Expr {
+    /// A name that is said to be in a set, with the set.
+    fn member(self, link: Link) -> Option<(Binder, Option<Expr>)>
+        ensures { option_map (λ r. (binder_view r.0, maybe_view r.1)) result ≡ part_of (tree.chain 6 (ex_view self) (one_link (link_view link))) }
+    {
+        match self {
+            Expr::Name(place, name) => match link.operator {
+                Operator::In => Some((Binder { place, name }, Some(link.operand))),
+                _ => None,
+            },
+            _ => None,
+        }
+    }
+
+    /// The name that an expression adds to generators, and the set with which it ends one.
+    pub fn part(self) -> Option<(Binder, Option<Expr>)>
+        ensures { option_map (λ r. (binder_view r.0, maybe_view r.1)) result ≡ part_of (ex_view self) }
+    {
+        match self {
+            Expr::Name(place, name) => Some((Binder { place, name }, None)),
+            Expr::Membership(first, link) => Box::into_inner(first).member(Box::into_inner(link)),
+            _ => None,
+        }
+    }
 }
 
 /// An operator, with its place and its right operand.
