@@ -1,4 +1,6 @@
-ghost use Rattle.std.specs.Prelude.{◌≡◌, ◌++◌, ◌∷◌, [], IfOk, IsOk, IsErr, OnErr, OnOk};
+ghost use Rattle.std.specs.Prelude.{◌≡◌, IfOk, nat_eq};
+ghost use Rattle.std.specs.Cmp.Lexicographic.{pointwise, nat_list_eq_equiv};
+ghost use Rattle.std.specs.Cmp.{partial_equiv_from_equiv};
 
 use std::alloc::{AllocError, Global};
 use std::marker::Model;
@@ -49,17 +51,16 @@ impl Bytes {
     }
 }
 
-#[cfg(test)]
-mod tests {
-    use super::*;
-    use std::test::Fail;
+impl PartialEq for Bytes {
+    ghost eq = { pointwise nat_eq };
 
-    #[test]
-    fn copies(rt: HostRuntime) -> Result<(), Fail> {
-        let bytes = Bytes::from_vec(vec![in rt.alloc(); 118, 97, 114]?);
-        let copied = bytes.copy(rt.alloc())?;
-        assert_eq!(rt; copied.as_slice(), b"var".as_slice());
-        assert_eq!(rt; bytes.into_vec().as_slice(), b"var".as_slice());
-        Ok(())
+    ghost laws = { partial_equiv_from_equiv nat_list_eq_equiv };
+
+    fn eq(&self, other: &Bytes) -> bool {
+        self.bytes == other.bytes
     }
+}
+
+impl Eq for Bytes {
+    ghost laws = { nat_list_eq_equiv };
 }

@@ -48,18 +48,3 @@ impl Point {
         })
     }
 }
-
-#[cfg(test)]
-mod tests {
-    use super::*;
-    use std::test::Fail;
-
-    #[test]
-    fn copies(rt: HostRuntime) -> Result<(), Fail> {
-        let point = Point::from_vec(vec![in rt.alloc(); 3, -1]?);
-        let copied = point.copy(rt.alloc())?;
-        assert_eq!(rt; copied.as_slice(), [3, -1].as_slice());
-        assert_eq!(rt; point.into_vec().as_slice(), [3, -1].as_slice());
-        Ok(())
-    }
-}
