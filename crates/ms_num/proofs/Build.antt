@@ -8,8 +8,8 @@ use Rattle.std.proofs.lemmas.Int.{ints, by_lt_z}
 use Rattle.ms_num.specs.Numbers.{int_eq}
 use Rattle.ms_num.specs.Span.{Span, Has, IsInterval, has, point}
 use Rattle.ms_num.specs.Ranges.{is_member, RisesPast, EndAtMost, span_at_most, span_at_least}
-use Rattle.ms_num.proofs.Spans.{le_from, of_le, and_left, and_right}
-use Rattle.ms_num.proofs.Members.{same_tests, has_from, has_of, past_all, rises_append}
+use Rattle.ms_num.proofs.SharedSpans.{le_from, of_le, and_left, and_right}
+use Rattle.ms_num.proofs.SharedMembers.{same_tests, has_from, has_of, past_all, rises_append}
 use Rattle.ms_num.proofs.Cuts.{members_kept, rises_kept, keeps_at_most, keeps_at_least, shrinks_at_most, shrinks_at_least}
 
 abbrev pub up_to : Span → ℤ → Span

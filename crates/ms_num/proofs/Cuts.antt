@@ -7,8 +7,8 @@ use Rattle.std.specs.Int.{int_min, int_max}
 use Rattle.std.proofs.lemmas.Int.{ints, clamps, by_lt_z}
 use Rattle.ms_num.specs.Span.{Span, IsInterval, has}
 use Rattle.ms_num.specs.Ranges.{is_member, RisesPast, span_at_most, span_at_least}
-use Rattle.ms_num.proofs.Spans.{le_from, of_le, and_left, and_right}
-use Rattle.ms_num.proofs.Members.{same_tests, has_from, has_of, rises_weaker, past_all}
+use Rattle.ms_num.proofs.SharedSpans.{le_from, of_le, and_left, and_right}
+use Rattle.ms_num.proofs.SharedMembers.{same_tests, has_from, has_of, rises_weaker, past_all}
 
 -- the test of an interval that may be missing
 abbrev has_some : Option Span → ℤ → Bool

@@ -6,8 +6,8 @@ use Rattle.std.proofs.Math.IntN.{*ℤ_comm}
 use Rattle.std.proofs.Math.Nat.{zero-mod}
 use Rattle.std.specs.Int.Signed.{≤ℤ_refl}
 use Rattle.ms_num.specs.Laws.{IsDivision, DivisionCutsTowardZero, OnlyZeroDoesNotDivide, SameMembersSameRanges}
-use Rattle.ms_num.proofs.Spans.{same_some}
-use Rattle.ms_num.proofs.Members.{one_list}
+use Rattle.ms_num.proofs.SharedSpans.{same_some}
+use Rattle.ms_num.proofs.SharedMembers.{one_list}
 
 -- what the cut quotient leaves is the remainder of std
 pub left_over : (x d : ℤ) → x -ℤ (d *ℤ int_div x d) ≡ int_rem x d

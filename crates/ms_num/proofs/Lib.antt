@@ -1,9 +1,19 @@
--- Lemmas on intervals and sets.
+-- Lemmas on intervals and sets; those in the files Shared are for the crates above.
 pub mod Build
 pub mod Cuts
 pub mod Divisions
 pub mod Images
+pub mod LeastIntervals
 pub mod Members
+pub mod OneCut
 pub mod Quotients
 pub mod Remainders
+pub mod SharedCounts
+pub mod SharedImages
+pub mod SharedMembers
+pub mod SharedQuotients
+pub mod SharedRemainders
+pub mod SharedSets
+pub mod SharedSizes
+pub mod SharedSpans
 pub mod Spans

@@ -1,4 +1,5 @@
 pub mod Laws
 pub mod Numbers
 pub mod Ranges
+pub mod Sets
 pub mod Span

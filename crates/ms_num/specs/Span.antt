@@ -40,6 +40,11 @@ is_single s = int_eq s.lo s.hi
 abbrev pub is_within : ℤ → Bool
 is_within z = int_le (negsuc (2 ^ 50 - 1)) z && int_le z (pos (2 ^ 50))
 
+-- the same, as a fact
+pub record IsWithin (z : ℤ) : Type 0 where
+  pub low : negsuc (2 ^ 50 - 1) ≤ℤ z
+  pub high : z ≤ℤ pos (2 ^ 50)
+
 abbrev pub if_within : ℤ → Option ℤ
 if_within z = if is_within z then Some z else None
 

@@ -59,6 +59,7 @@ impl Iv {
         Iv { lo: n, hi: n }
     }
 
+    /// The least number.
     pub fn lo(self) -> i64
         ensures value { result ≡ self.lo }
         ensures within { IsInterval self }
@@ -66,6 +67,7 @@ impl Iv {
         self.lo
     }
 
+    /// The greatest number.
     pub fn hi(self) -> i64
         ensures value { result ≡ self.hi }
         ensures within { IsInterval self }
@@ -73,6 +75,7 @@ impl Iv {
         self.hi
     }
 
+    /// Whether the number lies in the interval.
     pub fn has(self, n: i64) -> bool
         ensures { result ≡ has self n }
     {
@@ -163,7 +166,7 @@ impl Iv {
     {
         let below = self.quotients(other.negative_part());
         let above = self.quotients(other.positive_part());
-        join_some(below, above)
+        Iv::join_some(below, above)
     }
 
     /// An interval that has each defined remainder; none where 0 is the only divisor. It is cut by the dividends,
@@ -191,6 +194,17 @@ impl Iv {
         Iv {
             lo: self.lo.min(other.lo),
             hi: self.hi.max(other.hi),
+        }
+    }
+
+    /// The least interval that has both, where each may be missing.
+    pub fn join_some(first: Option<Iv>, second: Option<Iv>) -> Option<Iv>
+        ensures { result ≡ join_some first second }
+    {
+        match (first, second) {
+            (Some(first), Some(second)) => Some(first.join(second)),
+            (None, second) => second,
+            (first, None) => first,
         }
     }
 
@@ -249,14 +263,15 @@ impl Iv {
     }
 }
 
-// For the sets: how many numbers there are, and what is kept of them on one side.
 impl Iv {
-    pub(crate) fn size(self) -> u64
+    /// How many numbers there are.
+    pub fn size(self) -> u64
         ensures { result ≡ span_size self }
     {
         (self.hi - self.lo) as u64 + 1
     }
 
+    // What is left of the interval up to `n`.
     pub(crate) fn at_most(self, n: i64) -> Option<Iv>
         ensures { result ≡ span_at_most n self }
     {
@@ -270,6 +285,7 @@ impl Iv {
         }
     }
 
+    // What is left of the interval from `n` on.
     pub(crate) fn at_least(self, n: i64) -> Option<Iv>
         ensures { result ≡ span_at_least n self }
     {
@@ -294,17 +310,6 @@ fn product(x: i64, y: i64) -> Option<i64>
     }
 }
 
-// The least interval that has both, where each may be missing.
-fn join_some(first: Option<Iv>, second: Option<Iv>) -> Option<Iv>
-    ensures { result ≡ join_some first second }
-{
-    match (first, second) {
-        (Some(first), Some(second)) => Some(first.join(second)),
-        (None, second) => second,
-        (first, None) => first,
-    }
-}
-
 // The least interval that has the four numbers.
 fn around(p: i64, q: i64, r: i64, s: i64) -> Iv
     requires p_in { IsTrue (is_within p) }
@@ -318,6 +323,3 @@ fn around(p: i64, q: i64, r: i64, s: i64) -> Iv
         hi: p.max(q).max(r.max(s)),
     }
 }
-
-#[cfg(test)]
-mod tests;

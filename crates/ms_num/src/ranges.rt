@@ -1,8 +1,9 @@
-ghost use Rattle.std.specs.Prelude.{◌≡◌, ◌↔◌, ◌&&◌, ◌||◌, not, ℤ, int_le, ◌∷◌, [], IfOk, OnOk, IfSome, IsNone, IsTrue};
+ghost use Rattle.std.specs.Prelude.{◌≡◌, ◌≢◌, ◌↔◌, ◌&&◌, ◌||◌, not, ℤ, int_le, ◌∷◌, [], IfOk, OnOk, IfSome, IsNone, IsTrue};
 ghost use Rattle.std.specs.List.{list_all, list_any};
 ghost use Rattle.ms_num.specs.Numbers.{int_eq};
 ghost use Rattle.ms_num.specs.Span.{is_within};
 ghost use Rattle.ms_num.specs.Ranges.{IsRanges, IsLowest, IsHighest, is_member, size_of, EndAtMost};
+ghost use Rattle.ms_num.specs.Sets.{set_of, set_size, IsSet, span_of, declared_span};
 
 use crate::iv::Iv;
 use std::alloc::{AllocError, Global};
@@ -80,7 +81,8 @@ impl Ranges {
 
     /// How many numbers there are.
     pub fn size(&self) -> u64
-        ensures { result ≡ size_of self.now }
+        ensures value { result ≡ size_of self.now }
+        ensures set { result ≡ set_size (set_of self.now) }
     {
         self.ranges.iter().map(|range| range.size()).sum()
     }
@@ -99,6 +101,27 @@ impl Ranges {
         ensures highest { IfSome result (IsHighest self.now) }
     {
         self.ranges.last().map(|range| range.hi())
+    }
+
+    /// The interval from the least number to the greatest.
+    pub fn ends(&self) -> Iv
+        requires { self.now ≢ [] }
+        ensures value { result ≡ span_of (set_of self.now) }
+        ensures proper { IsSet (set_of self.now) }
+    {
+        let ranges = self.ranges();
+        Iv::new(ranges[0].lo(), ranges[ranges.len() - 1].hi())
+    }
+
+    /// The interval of a declared set: from the least number to the greatest, or 0..0 where there is none.
+    pub fn declared_interval(&self) -> Iv
+        ensures { result ≡ declared_span (set_of self.now) }
+    {
+        if self.ranges.is_empty() {
+            Iv::single(0)
+        } else {
+            self.ends()
+        }
     }
 
     /// The numbers up to `n`.
@@ -167,54 +190,4 @@ fn add_last(ranges: &mut Vec<Iv>, n: i64) -> Result<(), AllocError>
         None => ranges.push(Iv::single(n))?,
     }
     Ok(())
-}
-
-#[cfg(test)]
-mod tests {
-    use super::*;
-    use crate::laws::set_law;
-    use std::test::Fail;
-
-    #[test]
-    fn cuts(rt: HostRuntime) -> Result<(), Fail> {
-        let alloc = rt.alloc();
-        let whole = Ranges::from_iv(alloc, Iv::new(1, 5))?;
-        assert_eq!(rt; whole.ranges(), [Iv::new(1, 5)].as_slice());
-        let holed = whole.without(alloc, 3)?;
-        assert_eq!(rt; holed.ranges(), [Iv::new(1, 2), Iv::new(4, 5)].as_slice());
-        assert_eq!(rt;
-            holed.at_most(alloc, 2)?.ranges(),
-            [Iv::new(1, 2)].as_slice()
-        );
-        assert_eq!(rt;
-            holed.at_least(alloc, 5)?.ranges(),
-            [Iv::new(5, 5)].as_slice()
-        );
-        assert_eq!(rt;
-            (holed.has(2), holed.has(3), holed.has(4)),
-            (true, false, true)
-        );
-        assert_eq!(rt;
-            (holed.size(), holed.lo(), holed.hi()),
-            (4, Some(1), Some(5))
-        );
-        Ok(())
-    }
-
-    #[test]
-    fn makes(rt: HostRuntime) -> Result<(), Fail> {
-        let alloc = rt.alloc();
-        let listed = Ranges::from_list(alloc, &[5, 4])?;
-        assert_eq!(rt; listed.ranges(), [Iv::new(4, 5)].as_slice());
-        assert_eq!(rt; listed.copy(alloc)?.ranges(), [Iv::new(4, 5)].as_slice());
-        let doubled = Ranges::from_list(alloc, &[3, 1, 3, 1])?;
-        assert_eq!(rt; doubled.ranges(), [Iv::single(1), Iv::single(3)].as_slice());
-        let empty = Ranges::empty(alloc);
-        assert_eq!(rt;
-            (empty.has(0), empty.size(), empty.lo(), empty.hi()),
-            (false, 0, None, None)
-        );
-        set_law();
-        Ok(())
-    }
 }

@@ -57,17 +57,11 @@ fn push_numbers(text: &mut Vec<u8>, range: Iv, from: u64) -> Result<(), AllocErr
     requires { from ≤ span_size range }
     ensures { OnOk result (text.new.items ≡ text.old.items ++ later_numbers range from) }
 {
-    for k in from..size_of(range) {
+    for k in from..range.size() {
         text.extend_from_slice(b", ")?;
         push_at(text, range, k)?;
     }
     Ok(())
-}
-
-fn size_of(range: Iv) -> u64
-    ensures { result ≡ span_size range }
-{
-    (range.hi() - range.lo()) as u64 + 1
 }
 
 /// Appends the number at the place `k` of the range, from 0.

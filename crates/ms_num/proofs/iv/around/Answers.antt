@@ -1,7 +1,7 @@
 use Rattle.std.proofs.Common.{◌≡◌, arith, w64, to_z, of_z}
 use Rattle.std.specs.Int.{int_min, int_max}
 use Rattle.std.proofs.lemmas.Int.{ints, clamps}
-use Rattle.ms_num.proofs.Spans.{four_within}
+use Rattle.ms_num.proofs.SharedSpans.{four_within}
 use Rattle.ms_num.proofs.iv.around.Goals as goal
 
 lo : (c : goal.After-max-3) → to_z w64 (of_z w64 c.min-3.result) ≡ int_min (int_min c.args.p c.args.q) (int_min c.args.r c.args.s)

@@ -3,7 +3,7 @@ use Rattle.std.specs.Prelude.{ℤ, ◌+ℤ◌, ◌<ℤ◌, ◌≤ℤ◌, pos, in
 use Rattle.std.proofs.lemmas.Int.{ints, to_z-of_z}
 use Rattle.ms_num.specs.Span.{Span, IsInterval, is_within, point}
 use Rattle.ms_num.proofs.Build.{up_to, last_end, rises_grown, members_grown, rises_pushed, end_with, end_push}
-use Rattle.ms_num.proofs.Spans.{within_low, within_high, le_from, read_51}
+use Rattle.ms_num.proofs.SharedSpans.{within_low, within_high, le_from, read_51}
 use Rattle.ms_num.proofs.Cuts.{gt_from}
 use Rattle.std.specs.Int.Signed.{≤ℤ_refl}
 use Rattle.ms_num.proofs.ranges.add_last.Goals as goal

@@ -14,4 +14,4 @@ pub returns : goal.returns
 returns c =
     subst (λ n. c.loop-k.text.items ≡ c.args.text.now.items
     ++ flat_map (λ k. codes ", " ++ signed_decimal (c.args.range.lo +ℤ pos k)) (range_with_len c.args.from n))
-    (come_to c.args.from c.loop-k.k (span_size c.args.range) (rw (← c.size_of-k-end.ensures) (c.loop-k.auto.k-end (rw c.size_of-k-end.ensures c.requires))) (rw (← c.size_of-k-end.ensures) c.loop-k-test.false)) c.loop-k.invariant
+    (come_to c.args.from c.loop-k.k (span_size c.args.range) (rw (← c.size-k-end.ensures) (c.loop-k.auto.k-end (rw c.size-k-end.ensures c.requires))) (rw (← c.size-k-end.ensures) c.loop-k-test.false)) c.loop-k.invariant

@@ -1,4 +1,4 @@
-use Rattle.ms_num.proofs.Quotients.{div_least}
+use Rattle.ms_num.proofs.SharedQuotients.{div_least}
 use Rattle.ms_num.proofs.iv.Iv.div_hull.Goals as goal
 
 pub returns-clause-value : goal.returns-clause-value

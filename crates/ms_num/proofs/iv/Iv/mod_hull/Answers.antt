@@ -3,9 +3,9 @@ use Rattle.std.specs.Prelude.{FitsSigned, ℤ, pos, neg_ℤ, ◌-ℤ◌, ◌≤�
 use Rattle.std.specs.Int.{int_max}
 use Rattle.std.proofs.lemmas.Int.{ints, clamps}
 use Rattle.ms_num.specs.Span.{Span, IsInterval, remainder_bound}
-use Rattle.ms_num.proofs.Spans.{lo_within, hi_within, read_within}
-use Rattle.ms_num.proofs.Images.{abs_is}
-use Rattle.ms_num.proofs.Remainders.{mod_has, mod_single, mod_value_single, mod_value_hull, single_bits, not_zero_bits, not_single_bits, read_rem, bound_not_negative, cut_is}
+use Rattle.ms_num.proofs.SharedSpans.{lo_within, hi_within, read_within}
+use Rattle.ms_num.proofs.SharedImages.{abs_is}
+use Rattle.ms_num.proofs.SharedRemainders.{mod_has, mod_single, mod_value_single, mod_value_hull, single_bits, not_zero_bits, not_single_bits, read_rem, bound_not_negative, cut_is}
 use Rattle.ms_num.proofs.iv.Iv.mod_hull.Goals as goal
 
 pub returns-then-other-clause-value : goal.returns-then-other-clause-value

@@ -1,8 +1,8 @@
 use Rattle.std.proofs.Common.{◌≡◌, Some, ap, true, w64, to_z, of_z}
 use Rattle.std.specs.Prelude.{ℤ, int_div}
 use Rattle.ms_num.specs.Span.{is_within}
-use Rattle.ms_num.proofs.Spans.{lo_within, hi_within}
-use Rattle.ms_num.proofs.Quotients.{read_quot, quot_within}
+use Rattle.ms_num.proofs.SharedSpans.{lo_within, hi_within}
+use Rattle.ms_num.proofs.SharedQuotients.{read_quot, quot_within}
 use Rattle.ms_num.proofs.iv.Iv.quotients.Goals as goal
 
 within : (x y : ℤ) → is_within x ≡ true → is_within y ≡ true → is_within (to_z w64 (of_z w64 (int_div (to_z w64 (of_z w64 x)) (to_z w64 (of_z w64 y))))) ≡ true

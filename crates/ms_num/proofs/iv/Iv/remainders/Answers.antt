@@ -2,7 +2,7 @@ use Rattle.std.proofs.Common.{◌≡◌, arith, w64, to_z, of_z}
 use Rattle.std.specs.Prelude.{pos}
 use Rattle.std.specs.Int.{int_min, int_max}
 use Rattle.std.proofs.lemmas.Int.{ints, clamps}
-use Rattle.ms_num.proofs.Remainders.{cut_interval}
+use Rattle.ms_num.proofs.SharedRemainders.{cut_interval}
 use Rattle.ms_num.proofs.iv.Iv.remainders.Goals as goal
 
 lo : (c : goal.After-min-2) → to_z w64 (of_z w64 c.max.result) ≡ int_max (int_min c.self.inside.lo (pos 0)) c.args.least

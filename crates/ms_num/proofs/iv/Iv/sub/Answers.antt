@@ -3,8 +3,8 @@ use Rattle.std.specs.Prelude.{◌-ℤ◌}
 use Rattle.std.proofs.lemmas.Int.{ints}
 use Rattle.ms_num.specs.Numbers.{sub_at}
 use Rattle.ms_num.specs.Span.{IsLeast, IsResult, sub_span}
-use Rattle.ms_num.proofs.Spans.{read_51, if_narrow_some}
-use Rattle.ms_num.proofs.Images.{sub_least}
+use Rattle.ms_num.proofs.SharedSpans.{read_51, if_narrow_some}
+use Rattle.ms_num.proofs.SharedImages.{sub_least}
 use Rattle.ms_num.proofs.iv.Iv.sub.Goals as goal
 
 pub returns-clause-value : goal.returns-clause-value
@@ -21,4 +21,4 @@ returns-clause-least c =
     let a = c.args.self in
     let b = c.args.other in
     if_narrow_some (IsLeast (IsResult sub_at a b)) c.narrow.result (sub_span a b) (returns-clause-value c)
-    (sub_least a b (rw (← c.self.view_is) c.self.invariant) (rw (← c.other.view_is) c.other.invariant))
+    (sub_least a b (rw (← c.self.view_is) c.self.invariant.ordered) (rw (← c.other.view_is) c.other.invariant.ordered))

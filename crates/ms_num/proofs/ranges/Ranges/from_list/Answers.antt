@@ -11,7 +11,7 @@ use Rattle.std.proofs.lemmas.List.Folds.{list_any_more, list_all_at}
 use Rattle.std.proofs.lemmas.List.Sorted.{All-permutation, list_any-IsPermutation, sorted_far, ranks_by}
 use Rattle.ms_num.specs.Numbers.{int_eq}
 use Rattle.ms_num.specs.Span.{is_within}
-use Rattle.ms_num.proofs.Spans.{read_within}
+use Rattle.ms_num.proofs.SharedSpans.{read_within}
 use Rattle.ms_num.proofs.Cuts.{lt_of}
 use Rattle.ms_num.proofs.Build.{end_weaker}
 use Rattle.ms_num.proofs.ranges.Ranges.from_list.Goals as goal

@@ -1,6 +1,6 @@
 use Rattle.std.proofs.Common.{◌≡◌, rules}
 use Rattle.std.specs.Prelude.{option_map, slice_get}
-use Rattle.ms_num.proofs.Members.{lo_lowest}
+use Rattle.ms_num.proofs.SharedMembers.{lo_lowest}
 use Rattle.ms_num.proofs.ranges.Ranges.lo.Goals as goal
 
 value : (c : goal.After-map) → c.map.result ≡ option_map (λ s. s.lo) (slice_get c.args.self.now 0)

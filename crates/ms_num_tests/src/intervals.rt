@@ -1,5 +1,4 @@
-use super::*;
-use crate::laws::division_law;
+use ms_num::{Iv, LIMIT, cut_law, division_law, interval_law};
 use std::alloc::{AllocError, Global};
 use std::test::Fail;
 
@@ -88,10 +87,14 @@ fn computes(rt: HostRuntime) {
     assert_eq!(rt; a.abs(), Iv::new(0, 4));
     assert_eq!(rt; a.min2(b), Iv::new(-3, 4));
     assert_eq!(rt; a.max2(b), Iv::new(2, 5));
-    assert_eq!(rt; a.join(b), Iv::new(-3, 5));
+    assert_eq!(rt; (a.join(b), a.size()), (Iv::new(-3, 5), 8));
+    assert_eq!(rt; Iv::join_some(Some(a), Some(b)), Some(Iv::new(-3, 5)));
+    assert_eq!(rt; Iv::join_some(None, Some(b)), Some(b));
     assert_eq!(rt; b.div_hull(a), Some(Iv::new(-5, 5)));
     assert_eq!(rt; a.mod_hull(b), Some(Iv::new(-3, 4)));
     division_law();
+    interval_law();
+    cut_law();
 }
 
 #[test]
