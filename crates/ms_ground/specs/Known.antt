@@ -1,36 +1,36 @@
 -- Parts of which it is known whether they may be asked.
 use Rattle.std.specs.Prelude.{List, Option, Some, None, Bool, true, false, not, ◌&&◌}
-use Rattle.ms_trees.specs.Reach.{numeric, boolean, reach}
-use Rattle.ms_trees.specs.Fit.{is_fit, is_numeric}
+use Rattle.ms_trees.specs.Enclosure.{numeric_enclosure, boolean_enclosure, enclosure}
+use Rattle.ms_trees.specs.WellFormed.{is_well_formed, is_numeric}
 use Rattle.ms_num.specs.Span.{Span}
-use Rattle.ms_trees.specs.declared.tree.Reach.{Reach}
+use Rattle.ms_trees.specs.declared.tree.Enclosure.{Enclosure}
 use Rattle.ms_trees.specs.declared.tree.Ground.{Ground}
 
-abbrev pub known : Bool → Reach → Option Reach
+abbrev pub known : Bool → Enclosure → Option Enclosure
 known true q = Some q
 known false q = None
 
 -- what the tree may mean, where it is an integer tree that may be asked
-abbrev pub number_on : List Span → Ground → Option Reach
-number_on b g = known (is_numeric g && is_fit b g) (numeric (reach b g).numbers (reach b g).undefined)
+abbrev pub number_on : List Span → Ground → Option Enclosure
+number_on b g = known (is_numeric g && is_well_formed b g) (numeric_enclosure (enclosure b g).interval (enclosure b g).may_be_undefined)
 
 -- what the tree may mean, where it is a Boolean tree that may be asked
-abbrev pub truth_on : List Span → Ground → Option Reach
-truth_on b g = known (not (is_numeric g) && is_fit b g) (boolean (reach b g).yes (reach b g).no)
+abbrev pub truth_on : List Span → Ground → Option Enclosure
+truth_on b g = known (not (is_numeric g) && is_well_formed b g) (boolean_enclosure (enclosure b g).may_be_true (enclosure b g).may_be_false)
 
 -- the part is known and passes
-abbrev pub passes : (Reach → Bool) → Option Reach → Bool
+abbrev pub passes : (Enclosure → Bool) → Option Enclosure → Bool
 passes f None = false
 passes f (Some x) = f x
 
 -- both parts are known and pass
-abbrev pub both_pass : (Reach → Reach → Bool) → Option Reach → Option Reach → Bool
+abbrev pub both_pass : (Enclosure → Enclosure → Bool) → Option Enclosure → Option Enclosure → Bool
 both_pass f None y = false
 both_pass f (Some x) None = false
 both_pass f (Some x) (Some y) = f x y
 
 -- the three parts are known and pass
-abbrev pub all_pass : (Reach → Reach → Reach → Bool) → Option Reach → Option Reach → Option Reach → Bool
+abbrev pub all_pass : (Enclosure → Enclosure → Enclosure → Bool) → Option Enclosure → Option Enclosure → Option Enclosure → Bool
 all_pass f None x y = false
 all_pass f (Some c) None y = false
 all_pass f (Some c) (Some x) None = false

@@ -1,9 +1,9 @@
 ghost use Rattle.std.specs.Prelude.{◌≡◌, IsTrue, Some, pos, map, length, ◌&&◌, not};
 ghost use Rattle.ms_num.specs.Span.{point as single};
-ghost use Rattle.ms_trees.specs.Reach.{reach, extreme, joined, counted, is_reached, is_reached2};
-ghost use Rattle.ms_trees.specs.Fit.{is_fit as is_fit_of, is_numeric, numbers, truths, sums_fit, fits, checked};
-ghost use Rattle.ms_spans.specs.Access.{reaches as reached_by};
-ghost use Rattle.ms_spans.specs.Extreme.{extreme_span as operation_of};
+ghost use Rattle.ms_trees.specs.Enclosure.{enclosure, extreme_enclosure, joined, counted_enclosure, is_reached, is_reached2};
+ghost use Rattle.ms_trees.specs.WellFormed.{is_well_formed as is_fit_of, is_numeric, are_numbers, are_truths, sums_fit, fits, checked};
+ghost use Rattle.ms_trees.specs.Access.{reaches as reached_by};
+ghost use Rattle.ms_trees.specs.Extreme.{extreme_span as operation_of};
 ghost use Rattle.ms_ground.specs.Known.{number_on, truth_on, passes, both_pass};
 
 use crate::narrow::{
@@ -13,16 +13,14 @@ use crate::narrow::{
 };
 use crate::reaching::{extreme_on, numbers_on, selected_on, truths_on};
 use ms_num::Iv;
-use ms_spans::access::Access;
-use ms_spans::extreme::Extreme;
-use ms_trees::{Ground, Reach};
+use ms_trees::{Access, Enclosure, Extreme, Ground};
 
 /// Whether the tree may be asked on the box of these intervals: its parts are of the right sorts, its variables
 /// are those of the box, those of a `BVar` have no numbers but 0 and 1, and no interval of a node, nor of a sum on
 /// the way, leaves -2^50..2^50.
 ///
 /// A tree that is fit on a box is fit on each smaller one.
-pub fn is_fit(g: &Ground, sets: &[Iv]) -> bool
+pub fn is_well_formed(g: &Ground, sets: &[Iv]) -> bool
     ensures { result ≡ is_fit_of sets.now g.now }
 {
     number_is_fit(g, sets) || truth_is_fit(g, sets)
@@ -101,7 +99,7 @@ fn truth_is_fit(g: &Ground, sets: &[Iv]) -> bool
 
 // What an integer tree may mean, where it may be asked.
 #[cycle(fit)]
-fn number(g: &Ground, sets: &[Iv]) -> Option<Reach>
+fn number(g: &Ground, sets: &[Iv]) -> Option<Enclosure>
     ensures { result ≡ number_on sets.now g.now }
 {
     if number_is_fit(g, sets) {
@@ -113,7 +111,7 @@ fn number(g: &Ground, sets: &[Iv]) -> Option<Reach>
 
 // What a Boolean tree may mean, where it may be asked.
 #[cycle(fit)]
-fn truth(g: &Ground, sets: &[Iv]) -> Option<Reach>
+fn truth(g: &Ground, sets: &[Iv]) -> Option<Enclosure>
     ensures { result ≡ truth_on sets.now g.now }
 {
     if truth_is_fit(g, sets) {
@@ -125,7 +123,7 @@ fn truth(g: &Ground, sets: &[Iv]) -> Option<Reach>
 
 #[cycle(fit)]
 fn all_numbers(parts: &[Ground], sets: &[Iv]) -> bool
-    ensures { result ≡ numbers (map (checked sets.now) parts.now) }
+    ensures { result ≡ are_numbers (map (checked sets.now) parts.now) }
 {
     for part in parts {
         if !number_is_fit(part, sets) {
@@ -137,7 +135,7 @@ fn all_numbers(parts: &[Ground], sets: &[Iv]) -> bool
 
 #[cycle(fit)]
 fn all_truths(parts: &[Ground], sets: &[Iv]) -> bool
-    ensures { result ≡ truths (map (checked sets.now) parts.now) }
+    ensures { result ≡ are_truths (map (checked sets.now) parts.now) }
 {
     for part in parts {
         if !truth_is_fit(part, sets) {
@@ -149,7 +147,7 @@ fn all_truths(parts: &[Ground], sets: &[Iv]) -> bool
 
 #[cycle(fit)]
 fn sums_are_fit(parts: &[Ground], sets: &[Iv]) -> bool
-    ensures { result ≡ (numbers (map (checked sets.now) parts.now) && sums_fit (Some (single (pos 0))) (map (reach sets.now) parts.now)) }
+    ensures { result ≡ (are_numbers (map (checked sets.now) parts.now) && sums_fit (Some (single (pos 0))) (map (enclosure sets.now) parts.now)) }
 {
     if all_numbers(parts, sets) {
         sums_are_narrow(parts, sets)
@@ -160,10 +158,10 @@ fn sums_are_fit(parts: &[Ground], sets: &[Iv]) -> bool
 
 #[cycle(fit)]
 fn extreme_is_fit(which: Extreme, parts: &[Ground], sets: &[Iv]) -> bool
-    ensures { result ≡ (numbers (map (checked sets.now) parts.now) && fits (extreme (operation_of which) (map (reach sets.now) parts.now)).numbers) }
+    ensures { result ≡ (are_numbers (map (checked sets.now) parts.now) && fits (extreme_enclosure (operation_of which) (map (enclosure sets.now) parts.now)).interval) }
 {
     if all_numbers(parts, sets) {
-        is_narrow(extreme_on(which, parts, sets).numbers)
+        is_narrow(extreme_on(which, parts, sets).interval)
     } else {
         false
     }
@@ -171,21 +169,21 @@ fn extreme_is_fit(which: Extreme, parts: &[Ground], sets: &[Iv]) -> bool
 
 #[cycle(fit)]
 fn elements_are_fit(parts: &[Ground], access: &Access, sets: &[Iv]) -> bool
-    ensures { result ≡ (numbers (map (checked sets.now) parts.now) && fits (joined (reached_by access.now) 0 (map (reach sets.now) parts.now))) }
+    ensures { result ≡ (are_numbers (map (checked sets.now) parts.now) && fits (joined (reached_by access.now) 0 (map (enclosure sets.now) parts.now))) }
 {
     if all_numbers(parts, sets) {
-        is_narrow(selected_on(parts, access, false, sets).numbers)
+        is_narrow(selected_on(parts, access, false, sets).interval)
     } else {
         false
     }
 }
 
 #[cycle(fit)]
-fn line_is_fit(parts: &[Ground], low: i64, index: Option<Reach>, sets: &[Iv]) -> bool
-    ensures { result ≡ passes (λ i. numbers (map (checked sets.now) parts.now) && fits (joined (is_reached low i.numbers) 0 (map (reach sets.now) parts.now))) index }
+fn line_is_fit(parts: &[Ground], low: i64, index: Option<Enclosure>, sets: &[Iv]) -> bool
+    ensures { result ≡ passes (λ i. are_numbers (map (checked sets.now) parts.now) && fits (joined (is_reached low i.interval) 0 (map (enclosure sets.now) parts.now))) index }
 {
     match index {
-        Some(i) => elements_are_fit(parts, &Access::along(low, i.numbers), sets),
+        Some(i) => elements_are_fit(parts, &Access::along(low, i.interval), sets),
         None => false,
     }
 }
@@ -196,15 +194,15 @@ fn grid_is_fit(
     low: i64,
     left: i64,
     width: usize,
-    row: Option<Reach>,
-    column: Option<Reach>,
+    row: Option<Enclosure>,
+    column: Option<Enclosure>,
     sets: &[Iv],
 ) -> bool
-    ensures { result ≡ both_pass (λ i j. numbers (map (checked sets.now) parts.now) && fits (joined (is_reached2 low left width (length parts.now) i.numbers j.numbers) 0 (map (reach sets.now) parts.now))) row column }
+    ensures { result ≡ both_pass (λ i j. are_numbers (map (checked sets.now) parts.now) && fits (joined (is_reached2 low left width (length parts.now) i.interval j.interval) 0 (map (enclosure sets.now) parts.now))) row column }
 {
     match (row, column) {
         (Some(i), Some(j)) => {
-            let access = Access::over(low, left, width, parts.len(), i.numbers, j.numbers);
+            let access = Access::over(low, left, width, parts.len(), i.interval, j.interval);
             elements_are_fit(parts, &access, sets)
         }
         _ => false,
@@ -212,14 +210,14 @@ fn grid_is_fit(
 }
 
 #[cycle(fit)]
-fn count_is_fit(parts: &[Ground], n: Option<Reach>, sets: &[Iv]) -> bool
-    ensures { result ≡ passes (λ y. numbers (map (checked sets.now) parts.now) && fits (counted (map (reach sets.now) parts.now) y).numbers) n }
+fn count_is_fit(parts: &[Ground], n: Option<Enclosure>, sets: &[Iv]) -> bool
+    ensures { result ≡ passes (λ y. are_numbers (map (checked sets.now) parts.now) && fits (counted_enclosure (map (enclosure sets.now) parts.now) y).interval) n }
 {
     let Some(y) = n else {
         return false;
     };
     if all_numbers(parts, sets) {
-        count_is_narrow(parts, y.numbers, sets)
+        count_is_narrow(parts, y.interval, sets)
     } else {
         false
     }

@@ -1,14 +1,14 @@
 ghost use Rattle.std.specs.Prelude.{◌≡◌, ◌&&◌, ◌||◌, IsTrue, Some, None, not, true, is_some, map, option_map, int_le, pos, if◌then◌else◌};
 ghost use Rattle.ms_num.specs.Span.{is_narrow as is_narrow_of, point, add_span, sub_span, mul_span, div_span, mod_span, neg_span, abs_span};
-ghost use Rattle.ms_trees.specs.Reach.{reach, both, both_some, span_at, either_number, all_some, counts};
-ghost use Rattle.ms_trees.specs.Fit.{fits, has_variable, numbers, sums_fit, checked};
+ghost use Rattle.ms_trees.specs.Enclosure.{enclosure, both_intervals, both_partial, span_at, either_number, all_some, counts};
+ghost use Rattle.ms_trees.specs.WellFormed.{fits, has_variable, are_numbers, sums_fit, checked};
 ghost use Rattle.ms_ground.specs.Known.{passes, both_pass, all_pass};
 
 use crate::reaching::numbers_on;
+use crate::room::one_if;
+use crate::spans::{either, magnitude, meets, negated, quotient, remainder};
 use ms_num::{Iv, LIMIT};
-use ms_spans::numbers::one_if;
-use ms_spans::spans::{either, magnitude, meets, negated, quotient, remainder};
-use ms_trees::{Ground, Reach};
+use ms_trees::{Enclosure, Ground};
 
 // The greatest number that a count may be.
 const MOST: usize = 1 << 50;
@@ -58,18 +58,18 @@ fn is_proper(set: Iv) -> bool
     set.lo() <= set.hi()
 }
 
-pub fn sum_is_fit(x: Option<Reach>, y: Option<Reach>) -> bool
-    ensures { result ≡ both_pass (λ x y. fits (both add_span x.numbers y.numbers)) x y }
+pub fn sum_is_fit(x: Option<Enclosure>, y: Option<Enclosure>) -> bool
+    ensures { result ≡ both_pass (λ x y. fits (both_intervals add_span x.interval y.interval)) x y }
 {
     match (x, y) {
-        (Some(x), Some(y)) => sum_is_narrow(x.numbers, y.numbers),
+        (Some(x), Some(y)) => sum_is_narrow(x.interval, y.interval),
         _ => false,
     }
 }
 
 // The least interval of the sums does not leave the limits.
 fn sum_is_narrow(x: Option<Iv>, y: Option<Iv>) -> bool
-    ensures { result ≡ fits (both add_span x y) }
+    ensures { result ≡ fits (both_intervals add_span x y) }
 {
     match (x, y) {
         (Some(x), Some(y)) => x.add(y).is_some(),
@@ -77,17 +77,17 @@ fn sum_is_narrow(x: Option<Iv>, y: Option<Iv>) -> bool
     }
 }
 
-pub fn difference_is_fit(x: Option<Reach>, y: Option<Reach>) -> bool
-    ensures { result ≡ both_pass (λ x y. fits (both sub_span x.numbers y.numbers)) x y }
+pub fn difference_is_fit(x: Option<Enclosure>, y: Option<Enclosure>) -> bool
+    ensures { result ≡ both_pass (λ x y. fits (both_intervals sub_span x.interval y.interval)) x y }
 {
     match (x, y) {
-        (Some(x), Some(y)) => difference_is_narrow(x.numbers, y.numbers),
+        (Some(x), Some(y)) => difference_is_narrow(x.interval, y.interval),
         _ => false,
     }
 }
 
 fn difference_is_narrow(x: Option<Iv>, y: Option<Iv>) -> bool
-    ensures { result ≡ fits (both sub_span x y) }
+    ensures { result ≡ fits (both_intervals sub_span x y) }
 {
     match (x, y) {
         (Some(x), Some(y)) => x.sub(y).is_some(),
@@ -95,17 +95,17 @@ fn difference_is_narrow(x: Option<Iv>, y: Option<Iv>) -> bool
     }
 }
 
-pub fn product_is_fit(x: Option<Reach>, y: Option<Reach>) -> bool
-    ensures { result ≡ both_pass (λ x y. fits (both mul_span x.numbers y.numbers)) x y }
+pub fn product_is_fit(x: Option<Enclosure>, y: Option<Enclosure>) -> bool
+    ensures { result ≡ both_pass (λ x y. fits (both_intervals mul_span x.interval y.interval)) x y }
 {
     match (x, y) {
-        (Some(x), Some(y)) => product_is_narrow(x.numbers, y.numbers),
+        (Some(x), Some(y)) => product_is_narrow(x.interval, y.interval),
         _ => false,
     }
 }
 
 fn product_is_narrow(x: Option<Iv>, y: Option<Iv>) -> bool
-    ensures { result ≡ fits (both mul_span x y) }
+    ensures { result ≡ fits (both_intervals mul_span x y) }
 {
     match (x, y) {
         (Some(x), Some(y)) => x.mul(y).is_some(),
@@ -113,60 +113,64 @@ fn product_is_narrow(x: Option<Iv>, y: Option<Iv>) -> bool
     }
 }
 
-pub fn quotient_is_fit(x: Option<Reach>, y: Option<Reach>) -> bool
-    ensures { result ≡ both_pass (λ x y. fits (both_some div_span x.numbers y.numbers)) x y }
+pub fn quotient_is_fit(x: Option<Enclosure>, y: Option<Enclosure>) -> bool
+    ensures { result ≡ both_pass (λ x y. fits (both_partial div_span x.interval y.interval)) x y }
 {
     match (x, y) {
-        (Some(x), Some(y)) => is_narrow(quotient(x, y).numbers),
+        (Some(x), Some(y)) => is_narrow(quotient(x, y).interval),
         _ => false,
     }
 }
 
-pub fn remainder_is_fit(x: Option<Reach>, y: Option<Reach>) -> bool
-    ensures { result ≡ both_pass (λ x y. fits (both_some mod_span x.numbers y.numbers)) x y }
+pub fn remainder_is_fit(x: Option<Enclosure>, y: Option<Enclosure>) -> bool
+    ensures { result ≡ both_pass (λ x y. fits (both_partial mod_span x.interval y.interval)) x y }
 {
     match (x, y) {
-        (Some(x), Some(y)) => is_narrow(remainder(x, y).numbers),
+        (Some(x), Some(y)) => is_narrow(remainder(x, y).interval),
         _ => false,
     }
 }
 
-pub fn negation_is_fit(x: Option<Reach>) -> bool
-    ensures { result ≡ passes (λ x. fits (option_map neg_span x.numbers)) x }
+pub fn negation_is_fit(x: Option<Enclosure>) -> bool
+    ensures { result ≡ passes (λ x. fits (option_map neg_span x.interval)) x }
 {
     match x {
-        Some(x) => is_narrow(negated(x).numbers),
+        Some(x) => is_narrow(negated(x).interval),
         None => false,
     }
 }
 
-pub fn magnitude_is_fit(x: Option<Reach>) -> bool
-    ensures { result ≡ passes (λ x. fits (option_map abs_span x.numbers)) x }
+pub fn magnitude_is_fit(x: Option<Enclosure>) -> bool
+    ensures { result ≡ passes (λ x. fits (option_map abs_span x.interval)) x }
 {
     match x {
-        Some(x) => is_narrow(magnitude(x).numbers),
+        Some(x) => is_narrow(magnitude(x).interval),
         None => false,
     }
 }
 
-pub fn choice_is_fit(condition: Option<Reach>, x: Option<Reach>, y: Option<Reach>) -> bool
-    ensures { result ≡ all_pass (λ c x y. fits (either_number c x y).numbers) condition x y }
+pub fn choice_is_fit(
+    condition: Option<Enclosure>,
+    x: Option<Enclosure>,
+    y: Option<Enclosure>,
+) -> bool
+    ensures { result ≡ all_pass (λ c x y. fits (either_number c x y).interval) condition x y }
 {
     match (condition, x, y) {
-        (Some(condition), Some(x), Some(y)) => is_narrow(either(condition, x, y).numbers),
+        (Some(condition), Some(x), Some(y)) => is_narrow(either(condition, x, y).interval),
         _ => false,
     }
 }
 
 /// The part is known.
-pub fn is_known(x: Option<Reach>) -> bool
+pub fn is_known(x: Option<Enclosure>) -> bool
     ensures { result ≡ passes (λ x. true) x }
 {
     x.is_some()
 }
 
 /// Both parts are known.
-pub fn are_known(x: Option<Reach>, y: Option<Reach>) -> bool
+pub fn are_known(x: Option<Enclosure>, y: Option<Enclosure>) -> bool
     ensures { result ≡ both_pass (λ x y. true) x y }
 {
     match (x, y) {
@@ -176,7 +180,11 @@ pub fn are_known(x: Option<Reach>, y: Option<Reach>) -> bool
 }
 
 /// The three parts are known.
-pub fn all_are_known(condition: Option<Reach>, x: Option<Reach>, y: Option<Reach>) -> bool
+pub fn all_are_known(
+    condition: Option<Enclosure>,
+    x: Option<Enclosure>,
+    y: Option<Enclosure>,
+) -> bool
     ensures { result ≡ all_pass (λ c x y. true) condition x y }
 {
     match (condition, x, y) {
@@ -187,7 +195,7 @@ pub fn all_are_known(condition: Option<Reach>, x: Option<Reach>, y: Option<Reach
 
 // The sum, if any, where it does not leave the limits.
 fn narrow_sum(x: Option<Iv>, y: Option<Iv>) -> Option<Option<Iv>>
-    ensures { result ≡ (if fits (both add_span x y) then Some (both add_span x y) else None) }
+    ensures { result ≡ (if fits (both_intervals add_span x y) then Some (both_intervals add_span x y) else None) }
 {
     match (x, y) {
         (Some(x), Some(y)) => match x.add(y) {
@@ -200,12 +208,12 @@ fn narrow_sum(x: Option<Iv>, y: Option<Iv>) -> Option<Option<Iv>>
 
 /// Each sum on the way stays within the limits.
 pub fn sums_are_narrow(parts: &[Ground], sets: &[Iv]) -> bool
-    requires { IsTrue (numbers (map (checked sets.now) parts.now)) }
-    ensures { result ≡ sums_fit (Some (point (pos 0))) (map (reach sets.now) parts.now) }
+    requires { IsTrue (are_numbers (map (checked sets.now) parts.now)) }
+    ensures { result ≡ sums_fit (Some (point (pos 0))) (map (enclosure sets.now) parts.now) }
 {
     let mut total = Some(Iv::single(0));
     for part in parts {
-        match narrow_sum(total, numbers_on(part, sets).numbers) {
+        match narrow_sum(total, numbers_on(part, sets).interval) {
             Some(next) => total = next,
             None => return false,
         }
@@ -215,15 +223,15 @@ pub fn sums_are_narrow(parts: &[Ground], sets: &[Iv]) -> bool
 
 /// The numbers of parts that may be the number stay within the limits.
 pub fn count_is_narrow(parts: &[Ground], n: Option<Iv>, sets: &[Iv]) -> bool
-    requires { IsTrue (numbers (map (checked sets.now) parts.now)) }
-    ensures { result ≡ fits (if all_some (map (reach sets.now) parts.now) && is_some n then Some (counts (map (reach sets.now) parts.now) n) else None) }
+    requires { IsTrue (are_numbers (map (checked sets.now) parts.now)) }
+    ensures { result ≡ fits (if all_some (map (enclosure sets.now) parts.now) && is_some n then Some (counts (map (enclosure sets.now) parts.now) n) else None) }
 {
     if n.is_none() {
         return true;
     }
     let mut possible = 0usize;
     for part in parts {
-        let x = numbers_on(part, sets).numbers;
+        let x = numbers_on(part, sets).interval;
         if x.is_none() {
             return true;
         }

@@ -1,48 +1,46 @@
 ghost use Rattle.std.specs.Prelude.{◌≡◌, ◌<◌, IsTrue, Some, pos, map, ◌||◌, ◌&&◌, not, IfSome, length, drop};
 ghost use Rattle.std.specs.List.{list_any};
 ghost use Rattle.ms_num.specs.Span.{IsInterval, add_span, point as single};
-ghost use Rattle.ms_trees.specs.Reach.{reach, hull_of, folded, any_undefined, all_yes, any_no, any_yes, all_no, extreme, selected, counted, all_some, some_meet, has_room, room_from, have_room, some_several, may_be_row, distinct, rowed, test, numeric as numeric_of, boolean as boolean_of};
-ghost use Rattle.ms_ground.specs.Kept.{KeepsReaches, numbers_of, part};
-ghost use Rattle.ms_spans.specs.Access.{reaches as reached_by};
-ghost use Rattle.ms_spans.specs.Extreme.{extreme_span as operation_of};
-ghost use Rattle.ms_trees.specs.Fit.{is_fit, numbers, truths, sums_fit, checked};
-ghost use Rattle.ms_spans.specs.Room.{first_meets};
+ghost use Rattle.ms_trees.specs.Enclosure.{enclosure, hull_of, folded_intervals, any_may_be_undefined, all_may_be_true, any_may_be_false, any_may_be_true, all_may_be_false, extreme_enclosure, selected_enclosure, counted_enclosure, all_some, some_meet, has_room, room_from, have_room, some_several, may_be_row, distinct, rowed, test_interval, numeric_enclosure as numeric_of, boolean_enclosure as boolean_of};
+ghost use Rattle.ms_trees.specs.Kept.{KeepsEnclosures, numbers_of, part};
+ghost use Rattle.ms_trees.specs.Access.{reaches as reached_by};
+ghost use Rattle.ms_trees.specs.Extreme.{extreme_span as operation_of};
+ghost use Rattle.ms_trees.specs.WellFormed.{is_well_formed, are_numbers, are_truths, sums_fit, checked};
+ghost use Rattle.ms_ground.specs.Room.{first_meets};
 
-use crate::kept::KEPT;
-use ms_num::Iv;
-use ms_spans::access::{Access, misses, misses_grid, reaches};
-use ms_spans::extreme::Extreme;
-use ms_spans::numbers::one_if;
-use ms_spans::room::{admits, between, has_many, is_unsure, lies_in};
-use ms_spans::spans::{
+use crate::extremes::take_reach;
+use crate::misses::{misses, misses_grid};
+use crate::room::{admits, between, has_many, is_unsure, lies_in, one_if};
+use crate::spans::{
     are_one, at_most, bits, boolean, difference, either, either_of_truths, equal, equivalence,
     exclusive, gather, implication, less, magnitude, meets, membership, negated, numeric, product,
     quotient, remainder, sum, tabled, unequal,
 };
-use ms_trees::{Ground, Hull, Reach, Row};
+use ms_num::Iv;
+use ms_trees::{Access, Enclosure, Extreme, Ground, Hull, KEPT, Row, reaches};
 
 /// What the tree may mean on the box of these intervals.
 pub fn hull(g: &Ground, sets: &[Iv]) -> Hull
-    requires { IsTrue (is_fit sets.now g.now) }
-    ensures { result ≡ hull_of (reach sets.now g.now) }
+    requires { IsTrue (is_well_formed sets.now g.now) }
+    ensures { result ≡ hull_of (enclosure sets.now g.now) }
 {
     let x = numbers_on(g, sets);
     let y = truths_on(g, sets);
     Hull {
-        lo: x.numbers.map_or(0, Iv::lo),
-        hi: x.numbers.map_or(0, Iv::hi),
-        may_be_defined: x.numbers.is_some(),
-        may_be_undefined: x.undefined,
-        may_be_true: y.yes,
-        may_be_false: y.no,
+        lo: x.interval.map_or(0, Iv::lo),
+        hi: x.interval.map_or(0, Iv::hi),
+        may_be_defined: x.interval.is_some(),
+        may_be_undefined: x.may_be_undefined,
+        may_be_true: y.may_be_true,
+        may_be_false: y.may_be_false,
     }
 }
 
 // The numbers of an integer tree, and whether it may be undefined.
 #[cycle(reach)]
-pub fn numbers_on(g: &Ground, sets: &[Iv]) -> Reach
-    requires { IsTrue (is_fit sets.now g.now) }
-    ensures { result ≡ numeric_of (reach sets.now g.now).numbers (reach sets.now g.now).undefined }
+pub fn numbers_on(g: &Ground, sets: &[Iv]) -> Enclosure
+    requires { IsTrue (is_well_formed sets.now g.now) }
+    ensures { result ≡ numeric_of (enclosure sets.now g.now).interval (enclosure sets.now g.now).may_be_undefined }
 {
     match g {
         Ground::Num(n) => numeric(Some(Iv::single(*n)), false),
@@ -51,17 +49,26 @@ pub fn numbers_on(g: &Ground, sets: &[Iv]) -> Reach
         Ground::Add(a, b) => {
             let x = numbers_on(a.get(), sets);
             let y = numbers_on(b.get(), sets);
-            numeric(sum(x.numbers, y.numbers), x.undefined || y.undefined)
+            numeric(
+                sum(x.interval, y.interval),
+                x.may_be_undefined || y.may_be_undefined,
+            )
         }
         Ground::Sub(a, b) => {
             let x = numbers_on(a.get(), sets);
             let y = numbers_on(b.get(), sets);
-            numeric(difference(x.numbers, y.numbers), x.undefined || y.undefined)
+            numeric(
+                difference(x.interval, y.interval),
+                x.may_be_undefined || y.may_be_undefined,
+            )
         }
         Ground::Mul(a, b) => {
             let x = numbers_on(a.get(), sets);
             let y = numbers_on(b.get(), sets);
-            numeric(product(x.numbers, y.numbers), x.undefined || y.undefined)
+            numeric(
+                product(x.interval, y.interval),
+                x.may_be_undefined || y.may_be_undefined,
+            )
         }
         Ground::Div(a, b) => quotient(numbers_on(a.get(), sets), numbers_on(b.get(), sets)),
         Ground::Mod(a, b) => remainder(numbers_on(a.get(), sets), numbers_on(b.get(), sets)),
@@ -72,19 +79,19 @@ pub fn numbers_on(g: &Ground, sets: &[Iv]) -> Reach
         Ground::Greatest(parts) => extreme_on(Extreme::Greatest, parts.as_slice(), sets),
         Ground::ToInt(a) => {
             let x = truths_on(a.get(), sets);
-            numeric(Some(bits(x.yes, x.no)), false)
+            numeric(Some(bits(x.may_be_true, x.may_be_false)), false)
         }
         Ground::Elem(low, parts, index) => {
             let i = numbers_on(index.get(), sets);
             let none = misses(*low, parts.len(), i);
-            let access = Access::along(*low, i.numbers);
+            let access = Access::along(*low, i.interval);
             selected_on(parts.as_slice(), &access, none, sets)
         }
         Ground::Elem2(low, left, width, parts, row, column) => {
             let i = numbers_on(row.get(), sets);
             let j = numbers_on(column.get(), sets);
             let none = misses_grid(*low, *left, *width, parts.len(), i, j);
-            let access = Access::over(*low, *left, *width, parts.len(), i.numbers, j.numbers);
+            let access = Access::over(*low, *left, *width, parts.len(), i.interval, j.interval);
             selected_on(parts.as_slice(), &access, none, sets)
         }
         Ground::Count(parts, a) => {
@@ -101,9 +108,9 @@ pub fn numbers_on(g: &Ground, sets: &[Iv]) -> Reach
 
 // The truth values of a Boolean tree.
 #[cycle(reach)]
-pub fn truths_on(g: &Ground, sets: &[Iv]) -> Reach
-    requires { IsTrue (is_fit sets.now g.now) }
-    ensures { result ≡ boolean_of (reach sets.now g.now).yes (reach sets.now g.now).no }
+pub fn truths_on(g: &Ground, sets: &[Iv]) -> Enclosure
+    requires { IsTrue (is_well_formed sets.now g.now) }
+    ensures { result ≡ boolean_of (enclosure sets.now g.now).may_be_true (enclosure sets.now g.now).may_be_false }
 {
     match g {
         Ground::True => boolean(true, false),
@@ -116,7 +123,7 @@ pub fn truths_on(g: &Ground, sets: &[Iv]) -> Reach
         Ground::Or(parts) => any_on(parts.as_slice(), sets),
         Ground::Not(a) => {
             let x = truths_on(a.get(), sets);
-            boolean(x.no, x.yes)
+            boolean(x.may_be_false, x.may_be_true)
         }
         Ground::Iff(a, b) => equivalence(truths_on(a.get(), sets), truths_on(b.get(), sets)),
         Ground::Imp(a, b) => implication(truths_on(a.get(), sets), truths_on(b.get(), sets)),
@@ -137,40 +144,40 @@ pub fn truths_on(g: &Ground, sets: &[Iv]) -> Reach
 }
 
 #[cycle(reach)]
-fn sum_on(parts: &[Ground], sets: &[Iv]) -> Reach
-    requires fit { IsTrue (numbers (map (checked sets.now) parts.now)) }
-    requires narrow { IsTrue (sums_fit (Some (single (pos 0))) (map (reach sets.now) parts.now)) }
-    ensures { result ≡ numeric_of (folded add_span (Some (single (pos 0))) (map (reach sets.now) parts.now)) (any_undefined (map (reach sets.now) parts.now)) }
+fn sum_on(parts: &[Ground], sets: &[Iv]) -> Enclosure
+    requires fit { IsTrue (are_numbers (map (checked sets.now) parts.now)) }
+    requires narrow { IsTrue (sums_fit (Some (single (pos 0))) (map (enclosure sets.now) parts.now)) }
+    ensures { result ≡ numeric_of (folded_intervals add_span (Some (single (pos 0))) (map (enclosure sets.now) parts.now)) (any_may_be_undefined (map (enclosure sets.now) parts.now)) }
 {
     let mut total = Some(Iv::single(0));
-    let mut undefined = false;
+    let mut may_be_undefined = false;
     for part in parts {
         let x = numbers_on(part, sets);
-        total = sum(total, x.numbers);
-        undefined |= x.undefined;
+        total = sum(total, x.interval);
+        may_be_undefined |= x.may_be_undefined;
     }
-    numeric(total, undefined)
+    numeric(total, may_be_undefined)
 }
 
 #[cycle(reach)]
-pub fn extreme_on(which: Extreme, parts: &[Ground], sets: &[Iv]) -> Reach
-    requires { IsTrue (numbers (map (checked sets.now) parts.now)) }
-    ensures { result ≡ extreme (operation_of which) (map (reach sets.now) parts.now) }
+pub fn extreme_on(which: Extreme, parts: &[Ground], sets: &[Iv]) -> Enclosure
+    requires { IsTrue (are_numbers (map (checked sets.now) parts.now)) }
+    ensures { result ≡ extreme_enclosure (operation_of which) (map (enclosure sets.now) parts.now) }
 {
     let mut best = None;
     for part in parts {
-        best = Some(which.take_reach(best, numbers_on(part, sets)));
+        best = Some(take_reach(which, best, numbers_on(part, sets)));
     }
     match best {
-        Some(best) => numeric(best.numbers, best.undefined),
+        Some(best) => numeric(best.interval, best.may_be_undefined),
         None => numeric(None, true),
     }
 }
 
 #[cycle(reach)]
-pub fn selected_on(parts: &[Ground], access: &Access, none: bool, sets: &[Iv]) -> Reach
-    requires { IsTrue (numbers (map (checked sets.now) parts.now)) }
-    ensures { result ≡ selected (reached_by access.now) none (map (reach sets.now) parts.now) }
+pub fn selected_on(parts: &[Ground], access: &Access, none: bool, sets: &[Iv]) -> Enclosure
+    requires { IsTrue (are_numbers (map (checked sets.now) parts.now)) }
+    ensures { result ≡ selected_enclosure (reached_by access.now) none (map (enclosure sets.now) parts.now) }
 {
     let mut so_far = numeric(None, none);
     for place in 0..parts.len() {
@@ -178,68 +185,71 @@ pub fn selected_on(parts: &[Ground], access: &Access, none: bool, sets: &[Iv]) -
             so_far = gather(so_far, numbers_on(&parts[place], sets));
         }
     }
-    numeric(so_far.numbers, so_far.undefined)
+    numeric(so_far.interval, so_far.may_be_undefined)
 }
 
 #[cycle(reach)]
-fn count_on(parts: &[Ground], y: Reach, sets: &[Iv]) -> Reach
-    requires fit { IsTrue (numbers (map (checked sets.now) parts.now)) }
-    requires interval { IfSome (counted (map (reach sets.now) parts.now) y).numbers IsInterval }
-    ensures { result ≡ counted (map (reach sets.now) parts.now) y }
+fn count_on(parts: &[Ground], y: Enclosure, sets: &[Iv]) -> Enclosure
+    requires fit { IsTrue (are_numbers (map (checked sets.now) parts.now)) }
+    requires interval { IfSome (counted_enclosure (map (enclosure sets.now) parts.now) y).interval IsInterval }
+    ensures { result ≡ counted_enclosure (map (enclosure sets.now) parts.now) y }
 {
     let mut defined = true;
-    let mut undefined = y.undefined;
+    let mut may_be_undefined = y.may_be_undefined;
     let mut certain = 0usize;
     let mut possible = 0usize;
     for part in parts {
         let x = numbers_on(part, sets);
-        defined &= x.numbers.is_some();
-        undefined |= x.undefined;
-        certain += one_if(are_one(x.numbers, y.numbers));
-        possible += one_if(meets(x.numbers, y.numbers));
+        defined &= x.interval.is_some();
+        may_be_undefined |= x.may_be_undefined;
+        certain += one_if(are_one(x.interval, y.interval));
+        possible += one_if(meets(x.interval, y.interval));
     }
-    if defined && y.numbers.is_some() {
-        numeric(Some(Iv::new(certain as i64, possible as i64)), undefined)
+    if defined && y.interval.is_some() {
+        numeric(
+            Some(Iv::new(certain as i64, possible as i64)),
+            may_be_undefined,
+        )
     } else {
-        numeric(None, undefined)
+        numeric(None, may_be_undefined)
     }
 }
 
 #[cycle(reach)]
-fn all_on(parts: &[Ground], sets: &[Iv]) -> Reach
-    requires { IsTrue (truths (map (checked sets.now) parts.now)) }
-    ensures { result ≡ boolean_of (all_yes (map (reach sets.now) parts.now)) (any_no (map (reach sets.now) parts.now)) }
+fn all_on(parts: &[Ground], sets: &[Iv]) -> Enclosure
+    requires { IsTrue (are_truths (map (checked sets.now) parts.now)) }
+    ensures { result ≡ boolean_of (all_may_be_true (map (enclosure sets.now) parts.now)) (any_may_be_false (map (enclosure sets.now) parts.now)) }
 {
-    let mut yes = true;
-    let mut no = false;
+    let mut may_be_true = true;
+    let mut may_be_false = false;
     for part in parts {
         let x = truths_on(part, sets);
-        yes &= x.yes;
-        no |= x.no;
+        may_be_true &= x.may_be_true;
+        may_be_false |= x.may_be_false;
     }
-    boolean(yes, no)
+    boolean(may_be_true, may_be_false)
 }
 
 #[cycle(reach)]
-fn any_on(parts: &[Ground], sets: &[Iv]) -> Reach
-    requires { IsTrue (truths (map (checked sets.now) parts.now)) }
-    ensures { result ≡ boolean_of (any_yes (map (reach sets.now) parts.now)) (all_no (map (reach sets.now) parts.now)) }
+fn any_on(parts: &[Ground], sets: &[Iv]) -> Enclosure
+    requires { IsTrue (are_truths (map (checked sets.now) parts.now)) }
+    ensures { result ≡ boolean_of (any_may_be_true (map (enclosure sets.now) parts.now)) (all_may_be_false (map (enclosure sets.now) parts.now)) }
 {
-    let mut yes = false;
-    let mut no = true;
+    let mut may_be_true = false;
+    let mut may_be_false = true;
     for part in parts {
         let x = truths_on(part, sets);
-        yes |= x.yes;
-        no &= x.no;
+        may_be_true |= x.may_be_true;
+        may_be_false &= x.may_be_false;
     }
-    boolean(yes, no)
+    boolean(may_be_true, may_be_false)
 }
 
 // What the first parts may mean, each asked once.
 #[cycle(reach)]
-fn first_reaches(parts: &[Ground], sets: &[Iv]) -> [Reach; KEPT]
-    requires { IsTrue (numbers (map (checked sets.now) parts.now)) }
-    ensures { KeepsReaches sets.now parts.now result }
+fn first_reaches(parts: &[Ground], sets: &[Iv]) -> [Enclosure; KEPT]
+    requires { IsTrue (are_numbers (map (checked sets.now) parts.now)) }
+    ensures { KeepsEnclosures sets.now parts.now result }
 {
     let mut kept = [numeric(None, false); KEPT];
     for place in 0..parts.len().min(KEPT) {
@@ -250,10 +260,10 @@ fn first_reaches(parts: &[Ground], sets: &[Iv]) -> [Reach; KEPT]
 
 // What the part at the place may mean.
 #[cycle(reach)]
-fn reach_at(parts: &[Ground], kept: &[Reach; KEPT], place: usize, sets: &[Iv]) -> Reach
-    requires fit { IsTrue (numbers (map (checked sets.now) (drop place parts.now))) }
+fn reach_at(parts: &[Ground], kept: &[Enclosure; KEPT], place: usize, sets: &[Iv]) -> Enclosure
+    requires fit { IsTrue (are_numbers (map (checked sets.now) (drop place parts.now))) }
     requires place { place < length parts.now }
-    requires kept { KeepsReaches sets.now parts.now kept.now }
+    requires kept { KeepsEnclosures sets.now parts.now kept.now }
     ensures { result ≡ numbers_of sets.now (part parts.now place) }
 {
     if place < KEPT {
@@ -264,24 +274,24 @@ fn reach_at(parts: &[Ground], kept: &[Reach; KEPT], place: usize, sets: &[Iv]) -
 }
 
 #[cycle(reach)]
-fn distinct_on(parts: &[Ground], sets: &[Iv]) -> Reach
-    requires { IsTrue (numbers (map (checked sets.now) parts.now)) }
-    ensures { result ≡ distinct (map (reach sets.now) parts.now) }
+fn distinct_on(parts: &[Ground], sets: &[Iv]) -> Enclosure
+    requires { IsTrue (are_numbers (map (checked sets.now) parts.now)) }
+    ensures { result ≡ distinct (map (enclosure sets.now) parts.now) }
 {
     let kept = first_reaches(parts, sets);
-    let yes = all_have_room(parts, &kept, sets);
-    boolean(yes, some_meet_on(parts, &kept, sets))
+    let may_be_true = all_have_room(parts, &kept, sets);
+    boolean(may_be_true, some_meet_on(parts, &kept, sets))
 }
 
 // Each part has an interval, and each range between two ends has room.
 #[cycle(reach)]
-fn all_have_room(parts: &[Ground], kept: &[Reach; KEPT], sets: &[Iv]) -> bool
-    requires fit { IsTrue (numbers (map (checked sets.now) parts.now)) }
-    requires kept { KeepsReaches sets.now parts.now kept.now }
-    ensures { result ≡ (all_some (map (reach sets.now) parts.now) && have_room (map (reach sets.now) parts.now)) }
+fn all_have_room(parts: &[Ground], kept: &[Enclosure; KEPT], sets: &[Iv]) -> bool
+    requires fit { IsTrue (are_numbers (map (checked sets.now) parts.now)) }
+    requires kept { KeepsEnclosures sets.now parts.now kept.now }
+    ensures { result ≡ (all_some (map (enclosure sets.now) parts.now) && have_room (map (enclosure sets.now) parts.now)) }
 {
     for place in 0..parts.len() {
-        let Some(start) = reach_at(parts, kept, place, sets).numbers else {
+        let Some(start) = reach_at(parts, kept, place, sets).interval else {
             return false;
         };
         if !has_room_from(parts, kept, start, sets) {
@@ -292,13 +302,13 @@ fn all_have_room(parts: &[Ground], kept: &[Reach; KEPT], sets: &[Iv]) -> bool
 }
 
 #[cycle(reach)]
-fn has_room_from(parts: &[Ground], kept: &[Reach; KEPT], start: Iv, sets: &[Iv]) -> bool
-    requires fit { IsTrue (numbers (map (checked sets.now) parts.now)) }
-    requires kept { KeepsReaches sets.now parts.now kept.now }
-    ensures { result ≡ room_from (map (reach sets.now) parts.now) (Some start) }
+fn has_room_from(parts: &[Ground], kept: &[Enclosure; KEPT], start: Iv, sets: &[Iv]) -> bool
+    requires fit { IsTrue (are_numbers (map (checked sets.now) parts.now)) }
+    requires kept { KeepsEnclosures sets.now parts.now kept.now }
+    ensures { result ≡ room_from (map (enclosure sets.now) parts.now) (Some start) }
 {
     for place in 0..parts.len() {
-        let range = between(start, reach_at(parts, kept, place, sets).numbers);
+        let range = between(start, reach_at(parts, kept, place, sets).interval);
         if !has_room_on(parts, kept, range, sets) {
             return false;
         }
@@ -308,10 +318,10 @@ fn has_room_from(parts: &[Ground], kept: &[Reach; KEPT], start: Iv, sets: &[Iv])
 
 // The range, if there is one, holds the intervals of no more parts than it has numbers.
 #[cycle(reach)]
-fn has_room_on(parts: &[Ground], kept: &[Reach; KEPT], range: Option<Iv>, sets: &[Iv]) -> bool
-    requires fit { IsTrue (numbers (map (checked sets.now) parts.now)) }
-    requires kept { KeepsReaches sets.now parts.now kept.now }
-    ensures { result ≡ not (test (λ s. not (has_room s.lo s.hi (map (reach sets.now) parts.now))) range) }
+fn has_room_on(parts: &[Ground], kept: &[Enclosure; KEPT], range: Option<Iv>, sets: &[Iv]) -> bool
+    requires fit { IsTrue (are_numbers (map (checked sets.now) parts.now)) }
+    requires kept { KeepsEnclosures sets.now parts.now kept.now }
+    ensures { result ≡ not (test_interval (λ s. not (has_room s.lo s.hi (map (enclosure sets.now) parts.now))) range) }
 {
     let Some(range) = range else {
         return true;
@@ -321,17 +331,17 @@ fn has_room_on(parts: &[Ground], kept: &[Reach; KEPT], range: Option<Iv>, sets: 
     }
     let mut held = 0usize;
     for place in 0..parts.len() {
-        held += one_if(lies_in(reach_at(parts, kept, place, sets).numbers, range));
+        held += one_if(lies_in(reach_at(parts, kept, place, sets).interval, range));
     }
     has_many(range, held)
 }
 
 // A part may be undefined, or the intervals of two parts meet.
 #[cycle(reach)]
-fn some_meet_on(parts: &[Ground], kept: &[Reach; KEPT], sets: &[Iv]) -> bool
-    requires fit { IsTrue (numbers (map (checked sets.now) parts.now)) }
-    requires kept { KeepsReaches sets.now parts.now kept.now }
-    ensures { result ≡ (any_undefined (map (reach sets.now) parts.now) || some_meet (map (reach sets.now) parts.now)) }
+fn some_meet_on(parts: &[Ground], kept: &[Enclosure; KEPT], sets: &[Iv]) -> bool
+    requires fit { IsTrue (are_numbers (map (checked sets.now) parts.now)) }
+    requires kept { KeepsEnclosures sets.now parts.now kept.now }
+    ensures { result ≡ (any_may_be_undefined (map (enclosure sets.now) parts.now) || some_meet (map (enclosure sets.now) parts.now)) }
 {
     for place in 0..parts.len() {
         if first_meets_on(parts, kept, place, sets) {
@@ -342,18 +352,18 @@ fn some_meet_on(parts: &[Ground], kept: &[Reach; KEPT], sets: &[Iv]) -> bool
 }
 
 #[cycle(reach)]
-fn first_meets_on(parts: &[Ground], kept: &[Reach; KEPT], place: usize, sets: &[Iv]) -> bool
-    requires fit { IsTrue (numbers (map (checked sets.now) (drop place parts.now))) }
+fn first_meets_on(parts: &[Ground], kept: &[Enclosure; KEPT], place: usize, sets: &[Iv]) -> bool
+    requires fit { IsTrue (are_numbers (map (checked sets.now) (drop place parts.now))) }
     requires place { place < length parts.now }
-    requires kept { KeepsReaches sets.now parts.now kept.now }
-    ensures { result ≡ first_meets (map (reach sets.now) (drop place parts.now)) }
+    requires kept { KeepsEnclosures sets.now parts.now kept.now }
+    ensures { result ≡ first_meets (map (enclosure sets.now) (drop place parts.now)) }
 {
     let x = reach_at(parts, kept, place, sets);
-    if x.undefined {
+    if x.may_be_undefined {
         return true;
     }
     for later in place + 1..parts.len() {
-        if meets(x.numbers, reach_at(parts, kept, later, sets).numbers) {
+        if meets(x.interval, reach_at(parts, kept, later, sets).interval) {
             return true;
         }
     }
@@ -361,9 +371,9 @@ fn first_meets_on(parts: &[Ground], kept: &[Reach; KEPT], place: usize, sets: &[
 }
 
 #[cycle(reach)]
-fn rowed_on(parts: &[Ground], rows: &[Row], sets: &[Iv]) -> Reach
-    requires { IsTrue (numbers (map (checked sets.now) parts.now)) }
-    ensures { result ≡ rowed rows.now (map (reach sets.now) parts.now) }
+fn rowed_on(parts: &[Ground], rows: &[Row], sets: &[Iv]) -> Enclosure
+    requires { IsTrue (are_numbers (map (checked sets.now) parts.now)) }
+    ensures { result ≡ rowed rows.now (map (enclosure sets.now) parts.now) }
 {
     let kept = first_reaches(parts, sets);
     let fits = some_row_on(parts, &kept, rows, sets);
@@ -371,10 +381,10 @@ fn rowed_on(parts: &[Ground], rows: &[Row], sets: &[Iv]) -> Reach
 }
 
 #[cycle(reach)]
-fn some_row_on(parts: &[Ground], kept: &[Reach; KEPT], rows: &[Row], sets: &[Iv]) -> bool
-    requires fit { IsTrue (numbers (map (checked sets.now) parts.now)) }
-    requires kept { KeepsReaches sets.now parts.now kept.now }
-    ensures { result ≡ list_any (may_be_row (map (reach sets.now) parts.now)) rows.now }
+fn some_row_on(parts: &[Ground], kept: &[Enclosure; KEPT], rows: &[Row], sets: &[Iv]) -> bool
+    requires fit { IsTrue (are_numbers (map (checked sets.now) parts.now)) }
+    requires kept { KeepsEnclosures sets.now parts.now kept.now }
+    ensures { result ≡ list_any (may_be_row (map (enclosure sets.now) parts.now)) rows.now }
 {
     for row in rows {
         if admit_row(parts, kept, row.as_slice(), sets) {
@@ -386,16 +396,16 @@ fn some_row_on(parts: &[Ground], kept: &[Reach; KEPT], rows: &[Row], sets: &[Iv]
 
 // The intervals of the parts have the numbers, one by one.
 #[cycle(reach)]
-fn admit_row(parts: &[Ground], kept: &[Reach; KEPT], row: &[i64], sets: &[Iv]) -> bool
-    requires fit { IsTrue (numbers (map (checked sets.now) parts.now)) }
-    requires kept { KeepsReaches sets.now parts.now kept.now }
-    ensures { result ≡ may_be_row (map (reach sets.now) parts.now) row.now }
+fn admit_row(parts: &[Ground], kept: &[Enclosure; KEPT], row: &[i64], sets: &[Iv]) -> bool
+    requires fit { IsTrue (are_numbers (map (checked sets.now) parts.now)) }
+    requires kept { KeepsEnclosures sets.now parts.now kept.now }
+    ensures { result ≡ may_be_row (map (enclosure sets.now) parts.now) row.now }
 {
     if parts.len() != row.len() {
         return false;
     }
     for place in 0..parts.len() {
-        if !admits(reach_at(parts, kept, place, sets).numbers, row, place) {
+        if !admits(reach_at(parts, kept, place, sets).interval, row, place) {
             return false;
         }
     }
@@ -404,10 +414,10 @@ fn admit_row(parts: &[Ground], kept: &[Reach; KEPT], row: &[i64], sets: &[Iv]) -
 
 // A part may be undefined, or has two numbers or more.
 #[cycle(reach)]
-fn some_unsure_on(parts: &[Ground], kept: &[Reach; KEPT], sets: &[Iv]) -> bool
-    requires fit { IsTrue (numbers (map (checked sets.now) parts.now)) }
-    requires kept { KeepsReaches sets.now parts.now kept.now }
-    ensures { result ≡ (any_undefined (map (reach sets.now) parts.now) || some_several (map (reach sets.now) parts.now)) }
+fn some_unsure_on(parts: &[Ground], kept: &[Enclosure; KEPT], sets: &[Iv]) -> bool
+    requires fit { IsTrue (are_numbers (map (checked sets.now) parts.now)) }
+    requires kept { KeepsEnclosures sets.now parts.now kept.now }
+    ensures { result ≡ (any_may_be_undefined (map (enclosure sets.now) parts.now) || some_several (map (enclosure sets.now) parts.now)) }
 {
     for place in 0..parts.len() {
         if is_unsure(reach_at(parts, kept, place, sets)) {

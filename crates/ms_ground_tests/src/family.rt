@@ -2,7 +2,7 @@
 
 use crate::tests::{ADD, DIV, EQ, LE, LT, MOD, MUL, NE, SUB, X, Y, number_at, truth_at};
 use crate::{List, Word, tree};
-use ms_ground::{Ground, Hull, hull, is_fit};
+use ms_ground::{Ground, Hull, hull, is_well_formed};
 use ms_num::Iv;
 use std::process::Abort;
 use std::test::Fail;
@@ -132,7 +132,7 @@ fn compare(rt: &impl Abort, g: &Ground, sort: Sort, is_exact: bool) {
                 interval(ys).expect(rt, "an interval"),
                 Iv::new(0, 0),
             ];
-            assert!(rt; is_fit(g, &sets));
+            assert!(rt; is_well_formed(g, &sets));
             let h = hull(g, &sets);
             let seen = seen_on(rt, g, sort, xs, ys);
             assert!(rt; seen.lies_in(h));

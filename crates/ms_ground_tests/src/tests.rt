@@ -5,8 +5,8 @@ ghost use Rattle.ms_num.specs.Span.{point};
 
 use crate::{Both, List, One, Word, tree};
 use ms_ground::{
-    Branching, Ground, Order, Rows, ValueChoice, copy_trees, holds, hull, is_fit, keep_laws,
-    membership_law, nesting, room_law, size, value_at,
+    Branching, Ground, Order, Rows, ValueChoice, copy_trees, holds, hull, hull_laws,
+    is_well_formed, membership_law, nesting, room_law, size, value_at,
 };
 use ms_num::Iv;
 use sqlite_items::{Boxed, Items};
@@ -60,7 +60,7 @@ const UNDEF: Word = Word::Undef;
 pub fn number_at(g: &Ground, x: i16, y: i16, b: i16) -> Option<Option<i64>> {
     let sets = [single(x), single(y), single(b)];
     let point = [i64::from(x), i64::from(y), i64::from(b)];
-    if is_fit(g, &sets) {
+    if is_well_formed(g, &sets) {
         Some(value_at(g, &point))
     } else {
         None
@@ -71,7 +71,7 @@ pub fn number_at(g: &Ground, x: i16, y: i16, b: i16) -> Option<Option<i64>> {
 pub fn truth_at(g: &Ground, x: i16, y: i16, b: i16) -> Option<bool> {
     let sets = [single(x), single(y), single(b)];
     let point = [i64::from(x), i64::from(y), i64::from(b)];
-    if is_fit(g, &sets) {
+    if is_well_formed(g, &sets) {
         Some(holds(g, &point))
     } else {
         None
@@ -88,7 +88,7 @@ fn single(number: i16) -> Iv
 type Numbers = (Option<(i64, i64)>, bool);
 
 fn numbers_on(g: &Ground, sets: &[Iv]) -> Option<Numbers> {
-    if !is_fit(g, sets) {
+    if !is_well_formed(g, sets) {
         return None;
     }
     let h = hull(g, sets);
@@ -102,7 +102,7 @@ fn numbers_on(g: &Ground, sets: &[Iv]) -> Option<Numbers> {
 
 /// The truth values that may come.
 fn truths_text(g: &Ground, sets: &[Iv]) -> &'static str {
-    if !is_fit(g, sets) {
+    if !is_well_formed(g, sets) {
         return "not fit";
     }
     let h = hull(g, sets);
@@ -428,7 +428,7 @@ const UNFIT: [&[Word]; 6] = [
 fn unfit_trees_are_told(rt: HostRuntime) -> Result<(), Fail> {
     for words in UNFIT {
         let g = tree(rt.alloc(), words)?.expect(&rt, "a tree");
-        assert!(rt; !is_fit(&g, &table_box()));
+        assert!(rt; !is_well_formed(&g, &table_box()));
     }
     Ok(())
 }
@@ -441,9 +441,9 @@ fn sums_are_narrow_on_the_way(rt: HostRuntime) -> Result<(), Fail> {
     parts.push(Ground::Num(1 << 50))?;
     parts.push(Ground::Num(1))?;
     parts.push(Ground::Num(-1))?;
-    assert!(rt; !is_fit(&Ground::Sum(parts), &[]));
-    assert!(rt; !is_fit(&Ground::Num((1 << 50) + 1), &[]));
-    assert!(rt; is_fit(&Ground::Num(1 << 50), &[]));
+    assert!(rt; !is_well_formed(&Ground::Sum(parts), &[]));
+    assert!(rt; !is_well_formed(&Ground::Num((1 << 50) + 1), &[]));
+    assert!(rt; is_well_formed(&Ground::Num(1 << 50), &[]));
     Ok(())
 }
 
@@ -542,7 +542,7 @@ const POWERS: [(&[Word], bool); 3] = [
 fn powers_are_narrow(rt: HostRuntime) -> Result<(), Fail> {
     for (words, want) in POWERS {
         let g = tree(rt.alloc(), words)?.expect(&rt, "a tree");
-        assert_eq!(rt; is_fit(&g, &[Iv::new(0, 10000000)]), want);
+        assert_eq!(rt; is_well_formed(&g, &[Iv::new(0, 10000000)]), want);
     }
     Ok(())
 }
@@ -589,7 +589,7 @@ fn trees_are_copied_and_measured(rt: HostRuntime) -> Result<(), Fail> {
     for g in copied.as_slice() {
         assert_eq!(rt; size(g), 12);
     }
-    keep_laws();
+    hull_laws();
     membership_law();
     room_law();
     Ok(())

@@ -5,9 +5,9 @@ use Rattle.std.proofs.lemmas.Bool.{false≢true}
 use Rattle.ms_num.specs.Span.{Has, Inside}
 use Rattle.ms_num.proofs.Spans.{of_le}
 use Rattle.ms_trees.specs.declared.tree.Ground.{Ground}
-use Rattle.ms_trees.specs.Reach.{span_at}
-use Rattle.ms_trees.specs.Fit.{IsTruth}
-use Rattle.ms_tree_laws.specs.Laws.{LiesIn, Refuted, RefutedMeansUnmet, SmallerBoxesFit}
+use Rattle.ms_trees.specs.Enclosure.{span_at}
+use Rattle.ms_trees.specs.WellFormed.{IsTruth}
+use Rattle.ms_trees.specs.Laws.{LiesIn, Refuted, RefutedMeansUnmet, SmallerBoxesStayWellFormed}
 use Rattle.ms_session.specs.Sets.{Set, IsSet, Among}
 use Rattle.ms_session.specs.Boxes.{Assignment, Box, Each, InBox, IsBox, span_of, spans_of, declared_span, declared_spans}
 use Rattle.ms_session.specs.Scopes.{Holds, HoldsNone, IsConstraint}
@@ -67,8 +67,8 @@ within_declared (d ∷ sets) [] e i v l = absurd i
 within_declared (d ∷ sets) (s ∷ b) e i zero l = declared_inside d s (proper_declared d s e.0 i.0 i.1) i.0 i.1
 within_declared (d ∷ sets) (s ∷ b) e i (suc v) l = within_declared sets b e.1 i.2 v (omega (arith, l))
 
-pub fit_on_box : SmallerBoxesFit → (sets b : Box) → Each IsDeclared sets → IsBox sets b → (g : Ground) → IsConstraint sets g → IsTruth (spans_of b) g
+pub fit_on_box : SmallerBoxesStayWellFormed → (sets b : Box) → Each IsDeclared sets → IsBox sets b → (g : Ground) → IsConstraint sets g → IsTruth (spans_of b) g
 fit_on_box law sets b d i g c = record { fit = law (spans_of b) (declared_spans sets) (spans_length sets b i) (record { inside = λ v h. within_declared sets b d i v h.within }) g c.fit; boolean = c.boolean }
 
-pub all_fit : SmallerBoxesFit → (sets b : Box) → Each IsDeclared sets → IsBox sets b → (cons : List Ground) → All (IsConstraint sets) cons → All (IsTruth (spans_of b)) cons
+pub all_fit : SmallerBoxesStayWellFormed → (sets b : Box) → Each IsDeclared sets → IsBox sets b → (cons : List Ground) → All (IsConstraint sets) cons → All (IsTruth (spans_of b)) cons
 all_fit law sets b d i cons c k g l = fit_on_box law sets b d i _ (c k g l)

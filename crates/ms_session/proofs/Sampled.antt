@@ -3,17 +3,17 @@ use Rattle.std.proofs.Common.{◌≡◌, ℕ, ◌<◌, zero, suc, refl, sym, ap,
 use Rattle.std.specs.Prelude.{ℤ, pos, ◌≤ℤ◌, IfOk, OnOk}
 use Rattle.std.proofs.lemmas.Int.{ints}
 use Rattle.ms_num.specs.Span.{Span, Inside, point, is_narrow, add_span, mul_span, mod_span}
-use Rattle.ms_trees.specs.declared.tree.Reach.{Reach}
+use Rattle.ms_trees.specs.declared.tree.Enclosure.{Enclosure}
 use Rattle.ms_trees.specs.declared.tree.Ground.{Ground, map-Ground, out-Ground, fold_out-Ground}
 use Rattle.ms_trees.specs.declared.tree.Ground.TheVariants as g
 use Rattle.ms_trees.specs.declared.tree.Ground.TheOpen as F
-use Rattle.ms_trees.specs.Reach.{reach, reach_step, span_at, operation, division}
-use Rattle.ms_trees.specs.Reach as r
-use Rattle.ms_trees.specs.Fit.{Checked, checked, fit_rule, is_fit, is_numeric, numeric_layer, number, has_variable, fits, IsTruth}
+use Rattle.ms_trees.specs.Enclosure.{enclosure, enclosure_step, span_at, operation, division}
+use Rattle.ms_trees.specs.Enclosure as r
+use Rattle.ms_trees.specs.WellFormed.{Checked, checked, well_formed_rule, is_well_formed, is_numeric, numeric_layer, is_number, has_variable, fits, IsTruth}
 use Rattle.ms_trees.proofs.Layers.{fit_out}
 use Rattle.ms_trees.proofs.Bools.{and_true, and_left}
-use Rattle.ms_tree_laws.specs.Laws.{Smaller, HasVariable, SmallerBoxesFit}
-use Rattle.ms_trees.specs.Reach.{points}
+use Rattle.ms_trees.specs.Laws.{IsSmaller, HasVariable, SmallerBoxesStayWellFormed}
+use Rattle.ms_trees.specs.Enclosure.{points}
 use Rattle.ms_num.specs.Span.{has}
 use Rattle.ms_num.specs.Ranges.{IsRanges, is_member}
 use Rattle.ms_num.proofs.Members.{has_from}
@@ -35,67 +35,67 @@ use Rattle.ms_session.specs.Samples.{line, square, Admits, IsFree}
 use Rattle.ms_session.proofs.RangeSets.{ranges_is_set}
 
 -- an integer tree that is fit, and what it may mean
-pub record Part (b : List Span) (t : Ground) (x : Reach) : Type 0 where
-  pub fit : is_fit b t ≡ true
+pub record Part (b : List Span) (t : Ground) (x : Enclosure) : Type 0 where
+  pub fit : is_well_formed b t ≡ true
   pub numeric : is_numeric t ≡ true
-  pub means : reach b t ≡ x
+  pub means : enclosure b t ≡ x
 
-of_layer : (b : List Span) (t : Ground) (d : F.Ground-F Ground) → out-Ground t ≡ d → fit_rule b (map-Ground Ground Checked (checked b) d) ≡ true → is_fit b t ≡ true
-of_layer b t d e h = fit_out b t ∙ ap (λ z. fit_rule b (map-Ground Ground Checked (checked b) z)) e ∙ h
+of_layer : (b : List Span) (t : Ground) (d : F.Ground-F Ground) → out-Ground t ≡ d → well_formed_rule b (map-Ground Ground Checked (checked b) d) ≡ true → is_well_formed b t ≡ true
+of_layer b t d e h = fit_out b t ∙ ap (λ z. well_formed_rule b (map-Ground Ground Checked (checked b) z)) e ∙ h
 
-reach_layer : (b : List Span) (t : Ground) (d : F.Ground-F Ground) → out-Ground t ≡ d → reach b t ≡ reach_step b (map-Ground Ground Reach (reach b) d)
-reach_layer b t d e = fold_out-Ground Reach (reach_step b) t ∙ ap (λ z. reach_step b (map-Ground Ground Reach (reach b) z)) e
+reach_layer : (b : List Span) (t : Ground) (d : F.Ground-F Ground) → out-Ground t ≡ d → enclosure b t ≡ enclosure_step b (map-Ground Ground Enclosure (enclosure b) d)
+reach_layer b t d e = fold_out-Ground Enclosure (enclosure_step b) t ∙ ap (λ z. enclosure_step b (map-Ground Ground Enclosure (enclosure b) z)) e
 
 numeric_of : (t : Ground) (d : F.Ground-F Ground) → out-Ground t ≡ d → is_numeric t ≡ numeric_layer (map-Ground Ground Bool is_numeric d)
 numeric_of t d e = fold_out-Ground Bool numeric_layer t ∙ ap (λ z. numeric_layer (map-Ground Ground Bool is_numeric z)) e
 
-variable_part : (b : List Span) (v : ℕ) → has_variable b v ≡ true → fits (Some (span_at b v)) ≡ true → Part b (g.Var v) (r.numeric (Some (span_at b v)) false)
+variable_part : (b : List Span) (v : ℕ) → has_variable b v ≡ true → fits (Some (span_at b v)) ≡ true → Part b (g.Var v) (r.numeric_enclosure (Some (span_at b v)) false)
 variable_part b v h f = record {
   fit = of_layer b (g.Var v) (F.Var v) (g.outs-Var v) (and_true (has_variable b v) (fits (Some (span_at b v))) h f);
   numeric = numeric_of (g.Var v) (F.Var v) (g.outs-Var v);
   means = reach_layer b (g.Var v) (F.Var v) (g.outs-Var v);
 }
 
-number_part : (b : List Span) (n : ℤ) → is_narrow (point n) ≡ true → Part b (g.Num n) (r.numeric (Some (point n)) false)
+number_part : (b : List Span) (n : ℤ) → is_narrow (point n) ≡ true → Part b (g.Num n) (r.numeric_enclosure (Some (point n)) false)
 number_part b n h = record {
   fit = of_layer b (g.Num n) (F.Num n) (g.outs-Num n) (and_true true (is_narrow (point n)) refl h);
   numeric = numeric_of (g.Num n) (F.Num n) (g.outs-Num n);
   means = reach_layer b (g.Num n) (F.Num n) (g.outs-Num n);
 }
 
-both_numbers : (b : List Span) (s t : Ground) (x y : Reach) → Part b s x → Part b t y → (number (checked b s) && number (checked b t)) ≡ true
-both_numbers b s t x y p q = and_true (number (checked b s)) (number (checked b t)) (and_true (is_fit b s) (is_numeric s) p.fit p.numeric) (and_true (is_fit b t) (is_numeric t) q.fit q.numeric)
+both_numbers : (b : List Span) (s t : Ground) (x y : Enclosure) → Part b s x → Part b t y → (is_number (checked b s) && is_number (checked b t)) ≡ true
+both_numbers b s t x y p q = and_true (is_number (checked b s)) (is_number (checked b t)) (and_true (is_well_formed b s) (is_numeric s) p.fit p.numeric) (and_true (is_well_formed b t) (is_numeric t) q.fit q.numeric)
 
 -- an operation is narrow where its results are
-sum_part : (b : List Span) (s t : Ground) (x y : Reach) → Part b s x → Part b t y → fits (operation add_span x y).numbers ≡ true → Part b (g.Add s t) (operation add_span x y)
+sum_part : (b : List Span) (s t : Ground) (x y : Enclosure) → Part b s x → Part b t y → fits (operation add_span x y).interval ≡ true → Part b (g.Add s t) (operation add_span x y)
 sum_part b s t x y p q h = record {
-  fit = of_layer b (g.Add s t) (F.Add s t) (g.outs-Add s t) (and_true (number (checked b s) && number (checked b t)) (fits (operation add_span (reach b s) (reach b t)).numbers) (both_numbers b s t x y p q) (ap (λ z. fits (operation add_span z (reach b t)).numbers) p.means ∙ ap (λ z. fits (operation add_span x z).numbers) q.means ∙ h));
+  fit = of_layer b (g.Add s t) (F.Add s t) (g.outs-Add s t) (and_true (is_number (checked b s) && is_number (checked b t)) (fits (operation add_span (enclosure b s) (enclosure b t)).interval) (both_numbers b s t x y p q) (ap (λ z. fits (operation add_span z (enclosure b t)).interval) p.means ∙ ap (λ z. fits (operation add_span x z).interval) q.means ∙ h));
   numeric = numeric_of (g.Add s t) (F.Add s t) (g.outs-Add s t);
-  means = reach_layer b (g.Add s t) (F.Add s t) (g.outs-Add s t) ∙ ap (λ z. operation add_span z (reach b t)) p.means ∙ ap (λ z. operation add_span x z) q.means;
+  means = reach_layer b (g.Add s t) (F.Add s t) (g.outs-Add s t) ∙ ap (λ z. operation add_span z (enclosure b t)) p.means ∙ ap (λ z. operation add_span x z) q.means;
 }
 
-product_part : (b : List Span) (s t : Ground) (x y : Reach) → Part b s x → Part b t y → fits (operation mul_span x y).numbers ≡ true → Part b (g.Mul s t) (operation mul_span x y)
+product_part : (b : List Span) (s t : Ground) (x y : Enclosure) → Part b s x → Part b t y → fits (operation mul_span x y).interval ≡ true → Part b (g.Mul s t) (operation mul_span x y)
 product_part b s t x y p q h = record {
-  fit = of_layer b (g.Mul s t) (F.Mul s t) (g.outs-Mul s t) (and_true (number (checked b s) && number (checked b t)) (fits (operation mul_span (reach b s) (reach b t)).numbers) (both_numbers b s t x y p q) (ap (λ z. fits (operation mul_span z (reach b t)).numbers) p.means ∙ ap (λ z. fits (operation mul_span x z).numbers) q.means ∙ h));
+  fit = of_layer b (g.Mul s t) (F.Mul s t) (g.outs-Mul s t) (and_true (is_number (checked b s) && is_number (checked b t)) (fits (operation mul_span (enclosure b s) (enclosure b t)).interval) (both_numbers b s t x y p q) (ap (λ z. fits (operation mul_span z (enclosure b t)).interval) p.means ∙ ap (λ z. fits (operation mul_span x z).interval) q.means ∙ h));
   numeric = numeric_of (g.Mul s t) (F.Mul s t) (g.outs-Mul s t);
-  means = reach_layer b (g.Mul s t) (F.Mul s t) (g.outs-Mul s t) ∙ ap (λ z. operation mul_span z (reach b t)) p.means ∙ ap (λ z. operation mul_span x z) q.means;
+  means = reach_layer b (g.Mul s t) (F.Mul s t) (g.outs-Mul s t) ∙ ap (λ z. operation mul_span z (enclosure b t)) p.means ∙ ap (λ z. operation mul_span x z) q.means;
 }
 
-remainder_part : (b : List Span) (s t : Ground) (x y : Reach) → Part b s x → Part b t y → fits (division mod_span x y).numbers ≡ true → Part b (g.Mod s t) (division mod_span x y)
+remainder_part : (b : List Span) (s t : Ground) (x y : Enclosure) → Part b s x → Part b t y → fits (division mod_span x y).interval ≡ true → Part b (g.Mod s t) (division mod_span x y)
 remainder_part b s t x y p q h = record {
-  fit = of_layer b (g.Mod s t) (F.Mod s t) (g.outs-Mod s t) (and_true (number (checked b s) && number (checked b t)) (fits (division mod_span (reach b s) (reach b t)).numbers) (both_numbers b s t x y p q) (ap (λ z. fits (division mod_span z (reach b t)).numbers) p.means ∙ ap (λ z. fits (division mod_span x z).numbers) q.means ∙ h));
+  fit = of_layer b (g.Mod s t) (F.Mod s t) (g.outs-Mod s t) (and_true (is_number (checked b s) && is_number (checked b t)) (fits (division mod_span (enclosure b s) (enclosure b t)).interval) (both_numbers b s t x y p q) (ap (λ z. fits (division mod_span z (enclosure b t)).interval) p.means ∙ ap (λ z. fits (division mod_span x z).interval) q.means ∙ h));
   numeric = numeric_of (g.Mod s t) (F.Mod s t) (g.outs-Mod s t);
-  means = reach_layer b (g.Mod s t) (F.Mod s t) (g.outs-Mod s t) ∙ ap (λ z. division mod_span z (reach b t)) p.means ∙ ap (λ z. division mod_span x z) q.means;
+  means = reach_layer b (g.Mod s t) (F.Mod s t) (g.outs-Mod s t) ∙ ap (λ z. division mod_span z (enclosure b t)) p.means ∙ ap (λ z. division mod_span x z) q.means;
 }
 
-equal_truth : (b : List Span) (s t : Ground) (x y : Reach) → Part b s x → Part b t y → IsTruth b (g.Eq s t)
-equal_truth b s t x y p q = record { fit = of_layer b (g.Eq s t) (F.Eq s t) (g.outs-Eq s t) (and_true (number (checked b s) && number (checked b t)) true (both_numbers b s t x y p q) refl); boolean = numeric_of (g.Eq s t) (F.Eq s t) (g.outs-Eq s t) }
+equal_truth : (b : List Span) (s t : Ground) (x y : Enclosure) → Part b s x → Part b t y → IsTruth b (g.Eq s t)
+equal_truth b s t x y p q = record { fit = of_layer b (g.Eq s t) (F.Eq s t) (g.outs-Eq s t) (and_true (is_number (checked b s) && is_number (checked b t)) true (both_numbers b s t x y p q) refl); boolean = numeric_of (g.Eq s t) (F.Eq s t) (g.outs-Eq s t) }
 
-unequal_truth : (b : List Span) (s t : Ground) (x y : Reach) → Part b s x → Part b t y → IsTruth b (g.Ne s t)
-unequal_truth b s t x y p q = record { fit = of_layer b (g.Ne s t) (F.Ne s t) (g.outs-Ne s t) (and_true (number (checked b s) && number (checked b t)) true (both_numbers b s t x y p q) refl); boolean = numeric_of (g.Ne s t) (F.Ne s t) (g.outs-Ne s t) }
+unequal_truth : (b : List Span) (s t : Ground) (x y : Enclosure) → Part b s x → Part b t y → IsTruth b (g.Ne s t)
+unequal_truth b s t x y p q = record { fit = of_layer b (g.Ne s t) (F.Ne s t) (g.outs-Ne s t) (and_true (is_number (checked b s) && is_number (checked b t)) true (both_numbers b s t x y p q) refl); boolean = numeric_of (g.Ne s t) (F.Ne s t) (g.outs-Ne s t) }
 
-less_truth : (b : List Span) (s t : Ground) (x y : Reach) → Part b s x → Part b t y → IsTruth b (g.Lt s t)
-less_truth b s t x y p q = record { fit = of_layer b (g.Lt s t) (F.Lt s t) (g.outs-Lt s t) (and_true (number (checked b s) && number (checked b t)) true (both_numbers b s t x y p q) refl); boolean = numeric_of (g.Lt s t) (F.Lt s t) (g.outs-Lt s t) }
+less_truth : (b : List Span) (s t : Ground) (x y : Enclosure) → Part b s x → Part b t y → IsTruth b (g.Lt s t)
+less_truth b s t x y p q = record { fit = of_layer b (g.Lt s t) (F.Lt s t) (g.outs-Lt s t) (and_true (is_number (checked b s) && is_number (checked b t)) true (both_numbers b s t x y p q) refl); boolean = numeric_of (g.Lt s t) (F.Lt s t) (g.outs-Lt s t) }
 
 pub true_truth : (b : List Span) → IsTruth b g.True
 true_truth b = record { fit = of_layer b g.True F.True g.outs-True refl; boolean = numeric_of g.True F.True g.outs-True }
@@ -105,7 +105,7 @@ false_truth b = record { fit = of_layer b g.False F.False g.outs-False refl; boo
 
 -- ---- the trees over one variable
 
-on_line : Part line (g.Var 0) (r.numeric (Some (span_at line 0)) false)
+on_line : Part line (g.Var 0) (r.numeric_enclosure (Some (span_at line 0)) false)
 on_line = variable_part line 0 refl refl
 
 pub three_line : IsTruth line (g.Eq (g.Var 0) (g.Num (pos 3)))
@@ -119,10 +119,10 @@ other_line = unequal_truth line (g.Var 0) (g.Num (pos 2)) _ _ on_line (number_pa
 
 -- ---- the trees of the family
 
-x_part : Part square (g.Var 0) (r.numeric (Some (span_at square 0)) false)
+x_part : Part square (g.Var 0) (r.numeric_enclosure (Some (span_at square 0)) false)
 x_part = variable_part square 0 refl refl
 
-y_part : Part square (g.Var 1) (r.numeric (Some (span_at square 1)) false)
+y_part : Part square (g.Var 1) (r.numeric_enclosure (Some (span_at square 1)) false)
 y_part = variable_part square 1 refl refl
 
 pub family_two : IsTruth square (g.Eq (g.Var 0) (g.Num (pos 2)))
@@ -181,14 +181,14 @@ inside_declared (s ∷ ss) lo hi i l h from to =
     (record { lo = from (set_of (s ∷ ss)).lo k.low; proper = k.from (set_of (s ∷ ss)).hi k.high; hi = to (set_of (s ∷ ss)).hi k.high })
 
 -- on the first interval alone, or on both
-smaller_one : (s t : Span) → Inside s t → Smaller (s ∷ []) (t ∷ [])
+smaller_one : (s t : Span) → Inside s t → IsSmaller (s ∷ []) (t ∷ [])
 smaller_one s t i = record { inside = at }
   where
     at : (v : ℕ) → HasVariable (t ∷ []) v → Inside (span_at (s ∷ []) v) (span_at (t ∷ []) v)
     at zero h = i
     at (suc v) h = absurd (let l = h.within in omega (arith, l))
 
-smaller_two : (s t u v : Span) → Inside s t → Inside u v → Smaller (s ∷ u ∷ []) (t ∷ v ∷ [])
+smaller_two : (s t u v : Span) → Inside s t → Inside u v → IsSmaller (s ∷ u ∷ []) (t ∷ v ∷ [])
 smaller_two s t u v i j = record { inside = at }
   where
     at : (n : ℕ) → HasVariable (t ∷ v ∷ []) n → Inside (span_at (s ∷ u ∷ []) n) (span_at (t ∷ v ∷ []) n)
@@ -196,20 +196,20 @@ smaller_two s t u v i j = record { inside = at }
     at (suc zero) h = j
     at (suc (suc n)) h = absurd (let l = h.within in omega (arith, l))
 
-truth_smaller : SmallerBoxesFit → (b c : List Span) → length b ≡ length c → Smaller b c → (q : Ground) → IsTruth c q → IsTruth b q
+truth_smaller : SmallerBoxesStayWellFormed → (b c : List Span) → length b ≡ length c → IsSmaller b c → (q : Ground) → IsTruth c q → IsTruth b q
 truth_smaller law b c e m q f = record { fit = law b c e m q f.fit; boolean = f.boolean }
 
-pub line_admits : SmallerBoxesFit → (high : ℤ) → pos 1 ≤ℤ high → high ≤ℤ pos 4 → (s : Seen) → s.sets ≡ box_of ((record { lo = pos 1; hi = high } ∷ []) ∷ []) → Admits line s
+pub line_admits : SmallerBoxesStayWellFormed → (high : ℤ) → pos 1 ≤ℤ high → high ≤ℤ pos 4 → (s : Seen) → s.sets ≡ box_of ((record { lo = pos 1; hi = high } ∷ []) ∷ []) → Admits line s
 line_admits law high low up s e q f = subst (λ d. IsConstraint d q) (sym e) (truth_smaller law (declared_spans (box_of ((record { lo = pos 1; hi = high } ∷ []) ∷ []))) line refl (smaller_one (declared_span (set_of (record { lo = pos 1; hi = high } ∷ []))) (record { lo = pos 1; hi = pos 4 }) at) q f)
   where
     at : Inside (declared_span (set_of (record { lo = pos 1; hi = high } ∷ []))) (record { lo = pos 1; hi = pos 4 })
     at = subst (λ t. Inside (if t then record { lo = pos 1; hi = high } else record { lo = pos 0; hi = pos 0 }) (record { lo = pos 1; hi = pos 4 })) (sym (of_le (pos 1) high low)) (record { lo = ≤ℤ_refl (pos 1); proper = low; hi = up })
 
-pub square_admits : SmallerBoxesFit → (xs ys : List Span) → IsRanges ys → xs ≡ record { lo = pos 0; hi = pos 2 } ∷ [] → ((z : ℤ) → is_member ys z ≡ true → has (record { lo = pos 0; hi = pos 3 }) z ≡ true) → (q : Ground) → IsTruth square q → IsConstraint (box_of (xs ∷ ys ∷ [])) q
+pub square_admits : SmallerBoxesStayWellFormed → (xs ys : List Span) → IsRanges ys → xs ≡ record { lo = pos 0; hi = pos 2 } ∷ [] → ((z : ℤ) → is_member ys z ≡ true → has (record { lo = pos 0; hi = pos 3 }) z ≡ true) → (q : Ground) → IsTruth square q → IsConstraint (box_of (xs ∷ ys ∷ [])) q
 square_admits law xs ys i e m q f = subst (λ x. IsConstraint (box_of (x ∷ ys ∷ [])) q) (sym e) (truth_smaller law (declared_spans (box_of ((record { lo = pos 0; hi = pos 2 } ∷ []) ∷ ys ∷ []))) square refl (smaller_two (record { lo = pos 0; hi = pos 2 }) (record { lo = pos 0; hi = pos 3 }) (declared_span (set_of ys)) (record { lo = pos 0; hi = pos 3 }) (record { lo = ≤ℤ_refl (pos 0); proper = omega (arith, ints); hi = omega (arith, ints) }) (inside_declared ys (pos 0) (pos 3) i (≤ℤ_refl (pos 0)) (omega (arith, ints)) (λ z h. (has_from (record { lo = pos 0; hi = pos 3 }) z (m z h)).from) (λ z h. (has_from (record { lo = pos 0; hi = pos 3 }) z (m z h)).to))) q f)
 
 -- on the points of the square
-pub square_holds : SmallerBoxesFit → (x y : ℕ) → x < 4 → y < 4 → (q : Ground) → IsTruth square q → is_fit (points (pos x ∷ pos y ∷ [])) q ≡ true
+pub square_holds : SmallerBoxesStayWellFormed → (x y : ℕ) → x < 4 → y < 4 → (q : Ground) → IsTruth square q → is_well_formed (points (pos x ∷ pos y ∷ [])) q ≡ true
 square_holds law x y lx ly q f = law (points (pos x ∷ pos y ∷ [])) square refl (smaller_two (point (pos x)) (record { lo = pos 0; hi = pos 3 }) (point (pos y)) (record { lo = pos 0; hi = pos 3 }) (at x lx) (at y ly)) q f.fit
   where
     at : (n : ℕ) → n < 4 → Inside (point (pos n)) (record { lo = pos 0; hi = pos 3 })
@@ -217,8 +217,8 @@ square_holds law x y lx ly q f = law (points (pos x ∷ pos y ∷ [])) square re
 
 -- ---- what the samples' functions read back
 
-pub square_read : SmallerBoxesFit → (m n : ℤ) (x y : ℕ) → m ≡ pos x → n ≡ pos y → x < 4 → y < 4 → (q : Ground) → IsTruth square q → is_fit (point (to_z w64 (of_z w64 m)) ∷ point (to_z w64 (of_z w64 n)) ∷ []) q ≡ true
-square_read law m n x y em en lx ly q f = subst (λ z. is_fit (point z ∷ point (to_z w64 (of_z w64 n)) ∷ []) q ≡ true) (sym (read m x em lx)) (subst (λ z. is_fit (point (pos x) ∷ point z ∷ []) q ≡ true) (sym (read n y en ly)) (square_holds law x y lx ly q f))
+pub square_read : SmallerBoxesStayWellFormed → (m n : ℤ) (x y : ℕ) → m ≡ pos x → n ≡ pos y → x < 4 → y < 4 → (q : Ground) → IsTruth square q → is_well_formed (point (to_z w64 (of_z w64 m)) ∷ point (to_z w64 (of_z w64 n)) ∷ []) q ≡ true
+square_read law m n x y em en lx ly q f = subst (λ z. is_well_formed (point z ∷ point (to_z w64 (of_z w64 n)) ∷ []) q ≡ true) (sym (read m x em lx)) (subst (λ z. is_well_formed (point (pos x) ∷ point z ∷ []) q ≡ true) (sym (read n y en ly)) (square_holds law x y lx ly q f))
   where
     read : (m : ℤ) (x : ℕ) → m ≡ pos x → x < 4 → to_z w64 (of_z w64 m) ≡ pos x
     read m x e l = read_51 m (omega (arith, ints, e)) (omega (arith, ints, e, l)) ∙ e
@@ -230,7 +230,7 @@ within_whole ys zs s keep e m z h = alone (has s z) (and_left (is_member (s ∷ 
     alone true e = refl
     alone false e = e
 
-pub opened_admits : SmallerBoxesFit → (high : ℤ) → pos 1 ≤ℤ high → high ≤ℤ pos 4 → (ranges : List Span) (br : Branching) (cons : List Ground) (o : Result Stored AllocError) → ranges ≡ record { lo = pos 1; hi = high } ∷ [] → IfOk o (λ s. IsOpening (set_of ranges ∷ []) br cons (seen_of s)) → IfOk o (λ s. Admits line (seen_of s))
+pub opened_admits : SmallerBoxesStayWellFormed → (high : ℤ) → pos 1 ≤ℤ high → high ≤ℤ pos 4 → (ranges : List Span) (br : Branching) (cons : List Ground) (o : Result Stored AllocError) → ranges ≡ record { lo = pos 1; hi = high } ∷ [] → IfOk o (λ s. IsOpening (set_of ranges ∷ []) br cons (seen_of s)) → IfOk o (λ s. Admits line (seen_of s))
 opened_admits law high low up ranges br cons (Ok s) e h = line_admits law high low up (seen_of s) (h.sets ∙ ap (λ q. set_of q ∷ []) e)
 opened_admits law high low up ranges br cons (Err x) e h = tt
 

@@ -1,11 +1,11 @@
 -- Boxes of one assignment, and boxes with a variable that is open.
 use Rattle.std.proofs.Common.{◌≡◌, ◌⊎◌, inl, inr, ℕ, ◌+◌, ◌*◌, ◌<◌, ◌≤◌, zero, suc, refl, sym, ap, ◌∙◌, subst, arith, true, false, Bool, if◌then◌else◌, List, [], ◌∷◌, length, Option, Some, None}
 use Rattle.std.specs.Prelude.{ℤ, nat_le, option_map, All}
-use Rattle.ms_trees.specs.Fit.{IsTruth}
+use Rattle.ms_trees.specs.WellFormed.{IsTruth}
 use Rattle.std.proofs.lemmas.Int.{ints}
 use Rattle.std.proofs.lemmas.Bool.{leb-true, leb-false, cases_order}
 use Rattle.ms_num.specs.Span.{Span, point}
-use Rattle.ms_trees.specs.Reach.{points}
+use Rattle.ms_trees.specs.Enclosure.{points}
 use Rattle.ms_trees.specs.declared.tree.Ground.{Ground}
 use Rattle.ms_trees.specs.declared.branching.Branching.{Branching}
 use Rattle.ms_session.specs.Sets.{Set, IsSet, set_size}

@@ -5,10 +5,10 @@ use Rattle.std.proofs.lemmas.List.{take_all}
 use Rattle.std.proofs.lemmas.List.Elements.{All-more}
 use Rattle.ms_num.specs.Span.{Span}
 use Rattle.ms_trees.specs.declared.tree.Ground.{Ground}
-use Rattle.ms_trees.specs.declared.tree.Reach.{Reach}
-use Rattle.ms_trees.specs.Reach.{hull_at}
-use Rattle.ms_trees.specs.Fit.{IsTruth}
-use Rattle.ms_tree_laws.specs.Laws.{Refuted, RefutedMeansUnmet}
+use Rattle.ms_trees.specs.declared.tree.Enclosure.{Enclosure}
+use Rattle.ms_trees.specs.Enclosure.{hull_at}
+use Rattle.ms_trees.specs.WellFormed.{IsTruth}
+use Rattle.ms_trees.specs.Laws.{Refuted, RefutedMeansUnmet}
 use Rattle.ms_session.specs.Boxes.{Box, spans_of}
 use Rattle.ms_session.specs.Scopes.{HoldsNone, NoneRefuted}
 use Rattle.ms_session.specs.Plain.{box_of, IsProper, MayBeTrue}
@@ -30,7 +30,7 @@ not_false true e = refl
 not_false false e = absurd (cc)
 
 -- what a hull says of truth
-pub hull_yes : (o : Option Span) (r : Reach) → (hull_at o r).may_be_true ≡ r.yes
+pub hull_yes : (o : Option Span) (r : Enclosure) → (hull_at o r).may_be_true ≡ r.may_be_true
 hull_yes None r = refl
 hull_yes (Some s) r = refl
 

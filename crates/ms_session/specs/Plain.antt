@@ -2,7 +2,7 @@
 use Rattle.std.specs.Prelude.{◌≡◌, ℕ, ◌≤◌, true, nat_le, slice_set, Option, Some, None, if◌then◌else◌, List, [], ◌∷◌, map}
 use Rattle.ms_num.specs.Span.{Span}
 use Rattle.ms_trees.specs.declared.tree.Ground.{Ground}
-use Rattle.ms_trees.specs.Reach.{reach}
+use Rattle.ms_trees.specs.Enclosure.{enclosure}
 use Rattle.ms_trees.specs.declared.branching.Branching.{Branching}
 use Rattle.ms_trees.specs.declared.branching.ValueChoice.{ValueChoice}
 use Rattle.ms_session.specs.declared.taking.Taken.{Taken}
@@ -41,7 +41,7 @@ pub record Halves (b : Box) (variable : ℕ) (choice : ValueChoice) (c d : Box) 
 
 -- the tree may be true on the box
 abbrev pub MayBeTrue : List Span → Ground → Type 0
-MayBeTrue spans g = (reach spans g).yes ≡ true
+MayBeTrue spans g = (enclosure spans g).may_be_true ≡ true
 
 -- a box of two assignments or more, on which no constraint is refuted, and both its parts
 pub record Cuts (br : Branching) (cons : List Ground) (b c d : Box) : Type 0 where

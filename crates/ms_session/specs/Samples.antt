@@ -2,7 +2,7 @@
 use Rattle.std.specs.Prelude.{◌≡◌, List, [], ◌∷◌, pos}
 use Rattle.ms_num.specs.Span.{Span}
 use Rattle.ms_trees.specs.declared.tree.Ground.{Ground}
-use Rattle.ms_trees.specs.Fit.{IsTruth}
+use Rattle.ms_trees.specs.WellFormed.{IsTruth}
 use Rattle.ms_session.specs.declared.budget.Frame.{Frame}
 use Rattle.ms_session.specs.Scopes.{Seen, IsConstraint}
 use Rattle.ms_session.specs.Laws.{AllHaveRoom}

@@ -2,8 +2,8 @@
 use Rattle.std.specs.Prelude.{◌≡◌, ℕ, ◌+◌, ◌^◌, ◌<◌, ◌≤◌, Bool, true, false, List, [], ◌∷◌, ◌++◌, Option, Some, None, All, sum_by}
 use Rattle.ms_trees.specs.declared.tree.Ground.{Ground}
 use Rattle.ms_trees.specs.Value.{value}
-use Rattle.ms_trees.specs.Reach.{reach}
-use Rattle.ms_trees.specs.Fit.{IsTruth}
+use Rattle.ms_trees.specs.Enclosure.{enclosure}
+use Rattle.ms_trees.specs.WellFormed.{IsTruth}
 use Rattle.ms_trees.specs.Size.{size_of}
 use Rattle.ms_trees.specs.declared.branching.Branching.{Branching}
 use Rattle.ms_session.specs.declared.budget.Frame.{Frame}
@@ -63,7 +63,7 @@ HoldsNone cons b = (p : Assignment) → InBox p b → Meets cons p → ⊥
 
 -- interval reasoning admits that the constraint is true on the box
 abbrev pub MayHold : Box → Ground → Type 0
-MayHold b g = (reach (spans_of b) g).yes ≡ true
+MayHold b g = (enclosure (spans_of b) g).may_be_true ≡ true
 
 -- no constraint is refuted on the box
 abbrev pub NoneRefuted : List Ground → Box → Type 0

@@ -3,7 +3,7 @@ use crate::openings::{declare, total_size};
 use crate::scope::PlainScope;
 use crate::taking::take;
 use ms_base::Point;
-use ms_ground::{Branching, Ground, keep_laws, size};
+use ms_ground::{Branching, Ground, hull_laws, size};
 use ms_num::{Ranges, Sets};
 use std::alloc::{AllocError, Global};
 use std::marker::Model;
@@ -165,7 +165,7 @@ impl PlainScopes {
         ensures ok { IfOk result (λ answer. NodeGives (seen_of self.old) answer (seen_of self.new)) }
         ensures err { OnErr result (KeepsParents (seen_of self.old) (seen_of self.new)) }
     {
-        keep_laws();
+        hull_laws();
         let Some(first) = self.current.boxes.pop() else {
             return Ok(None);
         };

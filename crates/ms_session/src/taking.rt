@@ -1,7 +1,7 @@
 ghost use Rattle.std.specs.Prelude.{◌≡◌, ◌↔◌, ◌<◌, true, All, Any, IsTrue, IfOk, MatchBool, MatchOption, length};
-ghost use Rattle.ms_trees.specs.Fit.{IsTruth};
-ghost use Rattle.ms_tree_laws.specs.Laws.{Refuted};
-ghost use Rattle.ms_trees.specs.Reach.{points};
+ghost use Rattle.ms_trees.specs.WellFormed.{IsTruth};
+ghost use Rattle.ms_trees.specs.Laws.{Refuted};
+ghost use Rattle.ms_trees.specs.Enclosure.{points};
 ghost use Rattle.ms_session.specs.Boxes.{spans_of, box_size};
 ghost use Rattle.ms_session.specs.Branchings.{is_open as open_in};
 ghost use Rattle.ms_session.specs.Scopes.{Meets, HoldsNone, IsOnly, NoneRefuted};
@@ -10,7 +10,7 @@ ghost use Rattle.ms_session.specs.Plain.{box_of, IsProper, lows, Halves, MayBeTr
 use crate::cuts::{ends, values_left, values_tried};
 use crate::picks::pick;
 use ms_base::Point;
-use ms_ground::{Branching, Ground, ValueChoice, holds, hull, keep_laws};
+use ms_ground::{Branching, Ground, ValueChoice, holds, hull, hull_laws};
 use ms_num::{Iv, Ranges, Sets};
 use std::alloc::{AllocError, Global};
 
@@ -75,7 +75,7 @@ fn is_refuted(alloc: Global, sets: &[Ranges], constraints: &[Ground]) -> Result<
     requires fit { All (IsTruth (spans_of (box_of sets.now))) constraints.now }
     ensures { IfOk result (λ refuted. MatchBool refuted (HoldsNone constraints.now (box_of sets.now)) (NoneRefuted constraints.now (box_of sets.now))) }
 {
-    keep_laws();
+    hull_laws();
     let spans = spans(alloc, sets)?;
     Ok(!may_hold(constraints, &spans))
 }

@@ -2,7 +2,7 @@
 //! enumeration finds.
 ghost use Rattle.std.specs.Prelude.{◌≡◌, ◌<◌, ◌^◌, ◌≤ℤ◌, pos, List, All, IfOk, OnOk};
 ghost use Rattle.ms_trees.specs.declared.tree.Ground.{Ground};
-ghost use Rattle.ms_trees.specs.Fit.{IsTruth};
+ghost use Rattle.ms_trees.specs.WellFormed.{IsTruth};
 ghost use Rattle.ms_session.specs.declared.budget.Frame.{Frame};
 ghost use Rattle.ms_session.specs.Frames.{outer_left};
 ghost use Rattle.ms_session.specs.Scopes.{IsConstraint};
@@ -15,7 +15,7 @@ mod trees;
 
 use self::trees::{Posted, family_tree, posted_tree};
 use crate::{Budget, PlainSession, Session, Step, room_laws};
-use ms_ground::{Branching, Ground, Order, ValueChoice, holds, keep_laws, size};
+use ms_ground::{Branching, Ground, Order, ValueChoice, holds, hull_laws, size};
 use ms_num::{Iv, Ranges};
 use std::alloc::{AllocError, Global};
 use std::process::Abort;
@@ -158,7 +158,7 @@ fn open_line(alloc: Global, high: i64) -> Result<PlainSession, AllocError>
     ensures admits { IfOk result (λ s. Admits line (seen_of s)) }
 {
     room_laws();
-    keep_laws();
+    hull_laws();
     let sets = [Ranges::from_iv(alloc, Iv::new(1, high))?];
     PlainSession::open(alloc, &sets, &[], declared_order(alloc))
 }
@@ -246,7 +246,7 @@ fn all_hold(constraints: &[Ground], x: u8, y: u8) -> bool
     requires x { x < 4 }
     requires y { y < 4 }
 {
-    keep_laws();
+    hull_laws();
     let point = [i64::from(x), i64::from(y)];
     for constraint in constraints {
         if !holds(constraint, &point) {
@@ -285,7 +285,7 @@ fn answers_are_enumerated(
 fn family_sets(alloc: Global) -> Result<Vec<Ranges>, AllocError>
     ensures { IfOk result (λ sets. (g : Ground) → IsTruth square g → IsConstraint (box_of sets.items) g) }
 {
-    keep_laws();
+    hull_laws();
     let xs = Ranges::from_iv(alloc, Iv::new(0, 2))?;
     let ys = Ranges::from_iv(alloc, Iv::new(0, 3))?.without(alloc, 1)?;
     Ok(vec![in alloc; xs, ys]?)

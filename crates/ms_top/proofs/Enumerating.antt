@@ -6,8 +6,8 @@ use Rattle.std.specs.List.{list_all}
 use Rattle.std.proofs.lemmas.Int.{ints}
 use Rattle.std.proofs.lemmas.List.{append-nil, take_all, take_more_set, take-set, take-take}
 use Rattle.std.proofs.Math.ListN.{set}
-use Rattle.ms_trees.specs.Reach.{points}
-use Rattle.ms_trees.specs.Fit.{is_fit}
+use Rattle.ms_trees.specs.Enclosure.{points}
+use Rattle.ms_trees.specs.WellFormed.{is_well_formed}
 use Rattle.ms_trees.specs.declared.tree.Ground.{Ground}
 use Rattle.ms_top.specs.declared.domain.Domain.{Domain}
 use Rattle.ms_top.specs.Solution.{Within, Precedes, meets}
@@ -49,9 +49,9 @@ front_kept at point new v h =
     sym (take-take at (at + 1) new (omega arith)) ∙ ap (take at) h ∙ take-take at (at + 1) (set point at v) (omega arith) ∙ take-set point at v
 
 -- the trees may be asked where no number is left
-pub fit_here : (front point : List ℤ) (ds : List Domain) (trees : List Ground) → ds ≡ [] → front ≡ point → FitBehind front ds trees → list_all (is_fit (points point)) trees ≡ true
+pub fit_here : (front point : List ℤ) (ds : List Domain) (trees : List Ground) → ds ≡ [] → front ≡ point → FitBehind front ds trees → list_all (is_well_formed (points point)) trees ≡ true
 fit_here front point ds trees none same fit =
-    ap (λ q. list_all (is_fit (points q)) trees) (sym (append-nil front ∙ same)) ∙ fit [] (subst (λ (e : List Domain). Within e []) (sym none) tt)
+    ap (λ q. list_all (is_well_formed (points q)) trees) (sym (append-nil front ∙ same)) ∙ fit [] (subst (λ (e : List Domain). Within e []) (sym none) tt)
 
 -- where no number is left, it is the assignment itself
 pub found_here : (front point : List ℤ) (ds : List Domain) (trees : List Ground) → ds ≡ [] → front ≡ point → meets trees point ≡ true → LeastBehind front ds trees point
@@ -76,7 +76,7 @@ none_here front point ds trees none same not_met a within met = at a (subst (λ 
 
 module _ (front : List ℤ) (d : Domain) (ds : List Domain) (trees : List Ground) where
   pub fit_more : (n : ℤ) → d.lowest ≤ℤ n → n ≤ℤ d.highest → FitBehind front (d ∷ ds) trees → FitBehind (front ++ n ∷ []) ds trees
-  fit_more n low high fit a within = ap (λ q. list_all (is_fit (points q)) trees) (one_more front n a) ∙ fit (n ∷ a) (low, high, within)
+  fit_more n low high fit a within = ap (λ q. list_all (is_well_formed (points q)) trees) (one_more front n a) ∙ fit (n ∷ a) (low, high, within)
 
   pub none_below : (n : ℤ) → n ≤ℤ d.lowest → NoneBelow front d ds trees n
   none_below n h z a low less within met = absurd (omega (arith, ints))

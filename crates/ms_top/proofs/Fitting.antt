@@ -7,13 +7,13 @@ use Rattle.std.proofs.lemmas.Int.{ints}
 use Rattle.std.proofs.lemmas.Bool.Decides.{nat_tests}
 use Rattle.std.proofs.lemmas.List.Quantifiers.{position-Some}
 use Rattle.ms_num.specs.Span.{Span, point, is_narrow, add_span}
-use Rattle.ms_trees.specs.declared.tree.Reach.{Reach}
+use Rattle.ms_trees.specs.declared.tree.Enclosure.{Enclosure}
 use Rattle.ms_trees.specs.declared.tree.Ground.{Ground, map-Ground, out-Ground, fold_out-Ground}
 use Rattle.ms_trees.specs.declared.tree.Ground.TheVariants as g
 use Rattle.ms_trees.specs.declared.tree.Ground.TheOpen as F
-use Rattle.ms_trees.specs.Reach.{reach, reach_step, points, span_at}
-use Rattle.ms_trees.specs.Reach as r
-use Rattle.ms_trees.specs.Fit.{Checked, checked, fit_rule, is_fit, is_numeric, numeric_layer, number, has_variable, fits}
+use Rattle.ms_trees.specs.Enclosure.{enclosure, enclosure_step, points, span_at}
+use Rattle.ms_trees.specs.Enclosure as r
+use Rattle.ms_trees.specs.WellFormed.{Checked, checked, well_formed_rule, is_well_formed, is_numeric, numeric_layer, is_number, has_variable, fits}
 use Rattle.ms_trees.proofs.Layers.{fit_out}
 use Rattle.ms_trees.proofs.Bools.{and_left, and_right}
 use Rattle.ms_top.specs.declared.plain.Number.{Number}
@@ -52,10 +52,10 @@ number_bounded n h = signed_bounded n.negative n.magnitude 1000000 (at_most n.ma
 -- ---- trees whose one number is bounded
 
 record Bounded (b : List Span) (n : ℕ) (t : Ground) : Type 0 where
-  fit : is_fit b t ≡ true
+  fit : is_well_formed b t ≡ true
   numeric : is_numeric t ≡ true
   span : Span
-  reach : reach b t ≡ r.numeric (Some span) false
+  enclosure : enclosure b t ≡ r.numeric_enclosure (Some span) false
   low : negsuc n ≤ℤ span.lo
   high : span.hi ≤ℤ pos n
 
@@ -69,11 +69,11 @@ narrow_of n s h low high =
     ap (λ u. u && int_le s.hi (pos (2 ^ 50))) from ∙ to
 
 module _ (b : List Span) where
-  of_layer : (t : Ground) (d : F.Ground-F Ground) → out-Ground t ≡ d → fit_rule b (map-Ground Ground Checked (checked b) d) ≡ true → is_fit b t ≡ true
-  of_layer t d e h = fit_out b t ∙ ap (λ z. fit_rule b (map-Ground Ground Checked (checked b) z)) e ∙ h
+  of_layer : (t : Ground) (d : F.Ground-F Ground) → out-Ground t ≡ d → well_formed_rule b (map-Ground Ground Checked (checked b) d) ≡ true → is_well_formed b t ≡ true
+  of_layer t d e h = fit_out b t ∙ ap (λ z. well_formed_rule b (map-Ground Ground Checked (checked b) z)) e ∙ h
 
-  reach_layer : (t : Ground) (d : F.Ground-F Ground) → out-Ground t ≡ d → reach b t ≡ reach_step b (map-Ground Ground Reach (reach b) d)
-  reach_layer t d e = fold_out-Ground Reach (reach_step b) t ∙ ap (λ z. reach_step b (map-Ground Ground Reach (reach b) z)) e
+  reach_layer : (t : Ground) (d : F.Ground-F Ground) → out-Ground t ≡ d → enclosure b t ≡ enclosure_step b (map-Ground Ground Enclosure (enclosure b) d)
+  reach_layer t d e = fold_out-Ground Enclosure (enclosure_step b) t ∙ ap (λ z. enclosure_step b (map-Ground Ground Enclosure (enclosure b) z)) e
 
   numeric_of : (t : Ground) (d : F.Ground-F Ground) → out-Ground t ≡ d → is_numeric t ≡ numeric_layer (map-Ground Ground Bool is_numeric d)
   numeric_of t d e = fold_out-Ground Bool numeric_layer t ∙ ap (λ z. numeric_layer (map-Ground Ground Bool is_numeric z)) e
@@ -83,37 +83,37 @@ module _ (b : List Span) where
     fit = of_layer (g.Num z) (F.Num z) (g.outs-Num z) (narrow_of 1000000 (point z) (lit< tt) h.low h.high);
     numeric = numeric_of (g.Num z) (F.Num z) (g.outs-Num z);
     span = point z;
-    reach = reach_layer (g.Num z) (F.Num z) (g.outs-Num z);
+    enclosure = reach_layer (g.Num z) (F.Num z) (g.outs-Num z);
     low = h.low;
     high = h.high;
   }
 
-  is_number : (n : ℕ) (t : Ground) → Bounded b n t → number (checked b t) ≡ true
+  is_number : (n : ℕ) (t : Ground) → Bounded b n t → is_number (checked b t) ≡ true
   is_number n t h = ap (λ u. u && is_numeric t) h.fit ∙ h.numeric
 
-  are_numbers : (n m : ℕ) (x y : Ground) → Bounded b n x → Bounded b m y → (number (checked b x) && number (checked b y)) ≡ true
-  are_numbers n m x y h k = ap (λ u. u && number (checked b y)) (is_number n x h) ∙ is_number m y k
+  are_numbers : (n m : ℕ) (x y : Ground) → Bounded b n x → Bounded b m y → (is_number (checked b x) && is_number (checked b y)) ≡ true
+  are_numbers n m x y h k = ap (λ u. u && is_number (checked b y)) (is_number n x h) ∙ is_number m y k
 
   add_bounded : (n m : ℕ) (x y : Ground) → n + m + 1 < 2 ^ 50 → Bounded b n x → Bounded b m y → Bounded b (n + m + 1) (g.Add x y)
   add_bounded n m x y small h k =
       let span : Span = add_span h.span k.span in
-      let reached : r.numeric (r.both add_span (reach b x).numbers (reach b y).numbers) ((reach b x).undefined || (reach b y).undefined) ≡ r.numeric (Some span) false =
-      ap (λ q. r.numeric (r.both add_span q.numbers (reach b y).numbers) (q.undefined || (reach b y).undefined)) h.reach
-      ∙ ap (λ q. r.numeric (r.both add_span (Some h.span) q.numbers) q.undefined) k.reach in
+      let reached : r.numeric_enclosure (r.both_intervals add_span (enclosure b x).interval (enclosure b y).interval) ((enclosure b x).may_be_undefined || (enclosure b y).may_be_undefined) ≡ r.numeric_enclosure (Some span) false =
+      ap (λ q. r.numeric_enclosure (r.both_intervals add_span q.interval (enclosure b y).interval) (q.may_be_undefined || (enclosure b y).may_be_undefined)) h.reach
+      ∙ ap (λ q. r.numeric_enclosure (r.both_intervals add_span (Some h.span) q.interval) q.may_be_undefined) k.reach in
       let low : negsuc (n + m + 1) ≤ℤ span.lo = added_low n m h.span.lo k.span.lo h.low k.low in
       let high : span.hi ≤ℤ pos (n + m + 1) = added_high n m h.span.hi k.span.hi h.high k.high in
       record {
         fit = of_layer (g.Add x y) (F.Add x y) (g.outs-Add x y)
-            (ap (λ u. u && is_narrow_of (reach_step b (F.Add (reach b x) (reach b y)))) (are_numbers n m x y h k) ∙ ap is_narrow_of reached ∙ narrow_of (n + m + 1) span small low high);
+            (ap (λ u. u && is_narrow_of (enclosure_step b (F.Add (enclosure b x) (enclosure b y)))) (are_numbers n m x y h k) ∙ ap is_narrow_of reached ∙ narrow_of (n + m + 1) span small low high);
         numeric = numeric_of (g.Add x y) (F.Add x y) (g.outs-Add x y);
         span = span;
-        reach = reach_layer (g.Add x y) (F.Add x y) (g.outs-Add x y) ∙ reached;
+        enclosure = reach_layer (g.Add x y) (F.Add x y) (g.outs-Add x y) ∙ reached;
         low = low;
         high = high;
       }
     where
-      is_narrow_of : Reach → Bool
-      is_narrow_of q = fits q.numbers
+      is_narrow_of : Enclosure → Bool
+      is_narrow_of q = fits q.interval
 
       added_low : (n m : ℕ) (p q : ℤ) → negsuc n ≤ℤ p → negsuc m ≤ℤ q → negsuc (n + m + 1) ≤ℤ (p +ℤ q)
       added_low n m p q h k = omega (arith, ints)
@@ -126,8 +126,8 @@ module _ (b : List Span) where
 record IsPlace (b : List Span) (v : ℕ) : Type 0 where
   number : ℤ
   within : v < length b
-  here : span_at b v ≡ point number
-  bounded : IsBounded 1000000 number
+  here : span_at b v ≡ point is_number
+  bounded : IsBounded 1000000 is_number
 
 within_bounded : (d : PlainDeclaration) (z : ℤ) → is_small_declaration d ≡ true → (domain_of d).lowest ≤ℤ z → z ≤ℤ (domain_of d).highest → IsBounded 1000000 z
 within_bounded d z small low high =
@@ -170,7 +170,7 @@ var_bounded b v p =
       fit = of_layer b (g.Var v) (F.Var v) (g.outs-Var v) (ap (λ u. u && is_narrow (span_at b v)) has ∙ narrow);
       numeric = numeric_of b (g.Var v) (F.Var v) (g.outs-Var v);
       span = point z;
-      reach = reach_layer b (g.Var v) (F.Var v) (g.outs-Var v) ∙ ap (λ s. r.numeric (Some s) false) p.here;
+      enclosure = reach_layer b (g.Var v) (F.Var v) (g.outs-Var v) ∙ ap (λ s. r.numeric_enclosure (Some s) false) p.here;
       low = p.bounded.low;
       high = p.bounded.high;
     }
@@ -214,7 +214,7 @@ module _ (ds : List PlainDeclaration) (a : List ℤ) (small : list_all is_small_
 
   -- ---- comparisons
 
-  compared_fit : (x : Relation) (n m : ℕ) (s t : Ground) → Bounded (points a) n s → Bounded (points a) m t → is_fit (points a) (compared x s t) ≡ true
+  compared_fit : (x : Relation) (n m : ℕ) (s t : Ground) → Bounded (points a) n s → Bounded (points a) m t → is_well_formed (points a) (compared x s t) ≡ true
   compared_fit relation.Equal n m s t h k = of_layer (points a) (g.Eq s t) (F.Eq s t) (g.outs-Eq s t) (ap (λ u. u && true) (are_numbers (points a) n m s t h k))
   compared_fit relation.NotEqual n m s t h k = of_layer (points a) (g.Ne s t) (F.Ne s t) (g.outs-Ne s t) (ap (λ u. u && true) (are_numbers (points a) n m s t h k))
   compared_fit relation.Less n m s t h k = of_layer (points a) (g.Lt s t) (F.Lt s t) (g.outs-Lt s t) (ap (λ u. u && true) (are_numbers (points a) n m s t h k))
@@ -222,13 +222,13 @@ module _ (ds : List PlainDeclaration) (a : List ℤ) (small : list_all is_small_
   compared_fit relation.Greater n m s t h k = of_layer (points a) (g.Lt t s) (F.Lt t s) (g.outs-Lt t s) (ap (λ u. u && true) (are_numbers (points a) m n t s k h))
   compared_fit relation.AtLeast n m s t h k = of_layer (points a) (g.Le t s) (F.Le t s) (g.outs-Le t s) (ap (λ u. u && true) (are_numbers (points a) m n t s k h))
 
-  all_fit : (cs : List Comparison) → list_all (is_small_comparison ds) cs ≡ true → list_all (is_fit (points a)) (map (comparison_tree ds) cs) ≡ true
+  all_fit : (cs : List Comparison) → list_all (is_small_comparison ds) cs ≡ true → list_all (is_well_formed (points a)) (map (comparison_tree ds) cs) ≡ true
   all_fit [] h = refl
   all_fit (c ∷ cs) h =
       let one = and_left (is_small_comparison ds c) (list_all (is_small_comparison ds) cs) h in
       let left = total_bounded c.left (and_left (is_small_total ds c.left) (is_small_total ds c.right) one) in
       let right = total_bounded c.right (and_right (is_small_total ds c.left) (is_small_total ds c.right) one) in
-      ap (λ u. u && list_all (is_fit (points a)) (map (comparison_tree ds) cs)) (compared_fit c.relation _ _ (total_tree ds c.left) (total_tree ds c.right) left right)
+      ap (λ u. u && list_all (is_well_formed (points a)) (map (comparison_tree ds) cs)) (compared_fit c.relation _ _ (total_tree ds c.left) (total_tree ds c.right) left right)
       ∙ all_fit cs (and_right (is_small_comparison ds c) (list_all (is_small_comparison ds) cs) h)
 
 -- the trees of a small model may be asked on every assignment

@@ -2,14 +2,14 @@
 use Rattle.std.specs.Prelude.{◌≡◌, List, ◌++◌, ◌⊎◌, true, ℤ}
 use Rattle.std.specs.List.{list_all}
 use Rattle.ms_trees.specs.declared.tree.Ground.{Ground}
-use Rattle.ms_trees.specs.Reach.{points}
-use Rattle.ms_trees.specs.Fit.{is_fit}
+use Rattle.ms_trees.specs.Enclosure.{points}
+use Rattle.ms_trees.specs.WellFormed.{is_well_formed}
 use Rattle.ms_top.specs.declared.domain.Domain.{Domain}
 use Rattle.ms_top.specs.Solution.{Within, Precedes, meets}
 
 -- the trees may be asked on each assignment that begins so, the rest within the domains
 abbrev pub FitBehind : List ℤ → List Domain → List Ground → Type 0
-FitBehind front ds trees = (a : List ℤ) → Within ds a → list_all (is_fit (points (front ++ a))) trees ≡ true
+FitBehind front ds trees = (a : List ℤ) → Within ds a → list_all (is_well_formed (points (front ++ a))) trees ≡ true
 
 -- the least assignment that begins so and meets the trees
 pub record LeastBehind (front : List ℤ) (ds : List Domain) (trees : List Ground) (found : List ℤ) : Type 0 where

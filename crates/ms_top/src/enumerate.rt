@@ -2,8 +2,8 @@
 
 ghost use Rattle.std.specs.Prelude.{◌≡◌, ◌+◌, ◌≤◌, ◌∷◌, List, IsTrue, length, take, true, false};
 ghost use Rattle.std.specs.List.{list_all};
-ghost use Rattle.ms_trees.specs.Reach.{points};
-ghost use Rattle.ms_trees.specs.Fit.{is_fit};
+ghost use Rattle.ms_trees.specs.Enclosure.{points};
+ghost use Rattle.ms_trees.specs.WellFormed.{is_well_formed};
 ghost use Rattle.ms_top.specs.Search.{FitBehind, LeastBehind, NoneBehind};
 ghost use Rattle.ms_top.specs.Solution.{meets};
 
@@ -12,7 +12,7 @@ use ms_ground::{Ground, holds};
 
 /// Whether every tree is true on the point.
 fn all_hold(trees: &[Ground], point: &[i64]) -> bool
-    requires { IsTrue (list_all (is_fit (points point.now)) trees.now) }
+    requires { IsTrue (list_all (is_well_formed (points point.now)) trees.now) }
     ensures { result ≡ meets trees.now point.now }
 {
     for tree in trees {

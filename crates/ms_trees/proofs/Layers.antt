@@ -1,8 +1,8 @@
 -- Induction over trees, and the equations of the definitions by layers.
 use Rattle.std.proofs.Common.{◌≡◌, List, [], ◌∷◌, Bool, map, refl, sym, ap, ◌∙◌, subst}
 use Rattle.ms_num.specs.Span.{Span}
-use Rattle.ms_trees.specs.Fit.{Checked, fit_rule, fit_step, is_fit, is_numeric, checked_of, numeric_layer}
-use Rattle.ms_trees.specs.Fit.{checked}
+use Rattle.ms_trees.specs.WellFormed.{Checked, well_formed_rule, well_formed_step, is_well_formed, is_numeric, checked_of, numeric_layer}
+use Rattle.ms_trees.specs.WellFormed.{checked}
 use Rattle.ms_trees.specs.declared.tree.Ground.{Ground, roll-Ground, map-Ground, ind-Ground, out-Ground, roll-out-Ground, para-roll-Ground, fold-Ground, fold-roll-Ground}
 use Rattle.ms_trees.specs.declared.tree.Ground.TheOpen.{Ground-F, Num, Undef, Var, Add, Sub, Mul, Div, Mod, Neg, Abs, Sum, Least, Greatest, ToInt, Elem, Elem2, Count, IteI, True, False, BVar, And, Or, Not, Iff, Imp, Xor, Eq, Ne, Lt, Le, IteB, In, AllDiff, Table}
 
@@ -52,9 +52,9 @@ twice f g (In x rs) = refl
 twice f g (AllDiff xs) = ap AllDiff (list_twice f g xs)
 twice f g (Table xs rows) = ap (λ ys. Table ys rows) (list_twice f g xs)
 
-pub fit_roll : (b : List Span) (d : Ground-F Ground) → is_fit b (roll-Ground d) ≡ fit_rule b (map-Ground Ground Checked (checked b) d)
-unfolding is_fit
-fit_roll b d = para-roll-Ground Bool (fit_step b) d ∙ ap (fit_rule b) (twice (λ y. (y, is_fit b y)) (checked_of b) d)
+pub fit_roll : (b : List Span) (d : Ground-F Ground) → is_well_formed b (roll-Ground d) ≡ well_formed_rule b (map-Ground Ground Checked (checked b) d)
+unfolding is_well_formed
+fit_roll b d = para-roll-Ground Bool (well_formed_step b) d ∙ ap (well_formed_rule b) (twice (λ y. (y, is_well_formed b y)) (checked_of b) d)
 
 -- a fold at a node whose parts are given by p
 pub fold_at : (A : Type 0) (step : Ground-F A → A) {E : Type 0} (p : E → Ground) (y : Ground-F E) → fold-Ground A step (roll-Ground (map-Ground E Ground p y)) ≡ step (map-Ground E A (λ e. fold-Ground A step (p e)) y)
@@ -100,5 +100,5 @@ layer_map f (Table xs rows) = refl
 pub is_numeric_roll : {E : Type 0} (p : E → Ground) (y : Ground-F E) → is_numeric (roll-Ground (map-Ground E Ground p y)) ≡ numeric_layer y
 is_numeric_roll p y = fold_at Bool numeric_layer p y ∙ layer_map (λ e. is_numeric (p e)) y
 
-pub fit_out : (b : List Span) (g : Ground) → is_fit b g ≡ fit_rule b (map-Ground Ground Checked (checked b) (out-Ground g))
-fit_out b g = ap (is_fit b) (sym (roll-out-Ground g)) ∙ fit_roll b (out-Ground g)
+pub fit_out : (b : List Span) (g : Ground) → is_well_formed b g ≡ well_formed_rule b (map-Ground Ground Checked (checked b) (out-Ground g))
+fit_out b g = ap (is_well_formed b) (sym (roll-out-Ground g)) ∙ fit_roll b (out-Ground g)

@@ -1,4 +1,8 @@
 pub mod Value
-pub mod Reach
-pub mod Fit
+pub mod Enclosure
+pub mod WellFormed
 pub mod Size
+pub mod Laws
+pub mod Access
+pub mod Extreme
+pub mod Kept

@@ -11,11 +11,11 @@ pub record Meaning : Type 0 where
   pub number : Option ℤ
   pub truth : Bool
 
-abbrev pub numeric : Option ℤ → Meaning
-numeric o = record { number = o; truth = false }
+abbrev pub numeric_meaning : Option ℤ → Meaning
+numeric_meaning o = record { number = o; truth = false }
 
-abbrev pub boolean : Bool → Meaning
-boolean b = record { number = None; truth = b }
+abbrev pub boolean_meaning : Bool → Meaning
+boolean_meaning b = record { number = None; truth = b }
 
 -- ---- operations and comparisons
 
@@ -136,41 +136,41 @@ selected at p (m ∷ ms) = if at p then m.number else selected at (suc p) ms
 -- ---- the value
 
 abbrev pub value_step : List ℤ → Ground-F Meaning → Meaning
-value_step a (Num n) = numeric (Some n)
-value_step a Undef = numeric None
-value_step a (Var v) = numeric (Some (slice_index_or a v (pos 0)))
-value_step a (Add x y) = numeric (both add_at x.number y.number)
-value_step a (Sub x y) = numeric (both sub_at x.number y.number)
-value_step a (Mul x y) = numeric (both mul_at x.number y.number)
-value_step a (Div x y) = numeric (both div_at x.number y.number)
-value_step a (Mod x y) = numeric (both mod_at x.number y.number)
-value_step a (Neg x) = numeric (image neg_at x.number)
-value_step a (Abs x) = numeric (image abs_at x.number)
-value_step a (Sum xs) = numeric (folded add_at (Some (pos 0)) xs)
-value_step a (Least xs) = numeric (extreme min_at xs)
-value_step a (Greatest xs) = numeric (extreme max_at xs)
-value_step a (ToInt x) = numeric (Some (bit x.truth))
-value_step a (Elem low xs i) = numeric (selected (is_place low i.number) 0 xs)
-value_step a (Elem2 k l w xs i j) = numeric (selected (is_place2 k l w (length xs) i.number j.number) 0 xs)
-value_step a (Count xs y) = numeric (counted xs y.number)
-value_step a (IteI c x y) = numeric (if c.truth then x.number else y.number)
-value_step a True = boolean true
-value_step a False = boolean false
-value_step a (BVar v) = boolean (int_eq (slice_index_or a v (pos 0)) (pos 1))
-value_step a (And xs) = boolean (all_true xs)
-value_step a (Or xs) = boolean (any_true xs)
-value_step a (Not x) = boolean (not x.truth)
-value_step a (Iff x y) = boolean (iff x.truth y.truth)
-value_step a (Imp x y) = boolean (imp x.truth y.truth)
-value_step a (Xor x y) = boolean (xor x.truth y.truth)
-value_step a (Eq x y) = boolean (compare int_eq x.number y.number)
-value_step a (Ne x y) = boolean (compare int_ne x.number y.number)
-value_step a (Lt x y) = boolean (compare int_lt x.number y.number)
-value_step a (Le x y) = boolean (compare int_le x.number y.number)
-value_step a (IteB c x y) = boolean (if c.truth then x.truth else y.truth)
-value_step a (In x rs) = boolean (test (is_member rs) x.number)
-value_step a (AllDiff xs) = boolean (are_distinct xs)
-value_step a (Table xs rows) = boolean (list_any (is_row xs) rows)
+value_step a (Num n) = numeric_meaning (Some n)
+value_step a Undef = numeric_meaning None
+value_step a (Var v) = numeric_meaning (Some (slice_index_or a v (pos 0)))
+value_step a (Add x y) = numeric_meaning (both add_at x.number y.number)
+value_step a (Sub x y) = numeric_meaning (both sub_at x.number y.number)
+value_step a (Mul x y) = numeric_meaning (both mul_at x.number y.number)
+value_step a (Div x y) = numeric_meaning (both div_at x.number y.number)
+value_step a (Mod x y) = numeric_meaning (both mod_at x.number y.number)
+value_step a (Neg x) = numeric_meaning (image neg_at x.number)
+value_step a (Abs x) = numeric_meaning (image abs_at x.number)
+value_step a (Sum xs) = numeric_meaning (folded add_at (Some (pos 0)) xs)
+value_step a (Least xs) = numeric_meaning (extreme min_at xs)
+value_step a (Greatest xs) = numeric_meaning (extreme max_at xs)
+value_step a (ToInt x) = numeric_meaning (Some (bit x.truth))
+value_step a (Elem low xs i) = numeric_meaning (selected (is_place low i.number) 0 xs)
+value_step a (Elem2 k l w xs i j) = numeric_meaning (selected (is_place2 k l w (length xs) i.number j.number) 0 xs)
+value_step a (Count xs y) = numeric_meaning (counted xs y.number)
+value_step a (IteI c x y) = numeric_meaning (if c.truth then x.number else y.number)
+value_step a True = boolean_meaning true
+value_step a False = boolean_meaning false
+value_step a (BVar v) = boolean_meaning (int_eq (slice_index_or a v (pos 0)) (pos 1))
+value_step a (And xs) = boolean_meaning (all_true xs)
+value_step a (Or xs) = boolean_meaning (any_true xs)
+value_step a (Not x) = boolean_meaning (not x.truth)
+value_step a (Iff x y) = boolean_meaning (iff x.truth y.truth)
+value_step a (Imp x y) = boolean_meaning (imp x.truth y.truth)
+value_step a (Xor x y) = boolean_meaning (xor x.truth y.truth)
+value_step a (Eq x y) = boolean_meaning (compare int_eq x.number y.number)
+value_step a (Ne x y) = boolean_meaning (compare int_ne x.number y.number)
+value_step a (Lt x y) = boolean_meaning (compare int_lt x.number y.number)
+value_step a (Le x y) = boolean_meaning (compare int_le x.number y.number)
+value_step a (IteB c x y) = boolean_meaning (if c.truth then x.truth else y.truth)
+value_step a (In x rs) = boolean_meaning (test (is_member rs) x.number)
+value_step a (AllDiff xs) = boolean_meaning (are_distinct xs)
+value_step a (Table xs rows) = boolean_meaning (list_any (is_row xs) rows)
 
 -- the meaning of a tree on an assignment
 abbrev pub value : List ℤ → Ground → Meaning

@@ -64,14 +64,14 @@ pub enum Ground {
     Table(Items<Ground>, Rows),
 }
 
-/// What a tree may mean on the assignments of a box: its numbers, if any, and whether it may be undefined; or
-/// its truth values.
+/// What a tree may mean on the assignments of a box: an interval that has its numbers, if any, and whether it may be
+/// undefined; or its truth values.
 #[derive(Clone, Copy)]
-pub struct Reach {
-    pub numbers: Option<Iv>,
-    pub undefined: bool,
-    pub yes: bool,
-    pub no: bool,
+pub struct Enclosure {
+    pub interval: Option<Iv>,
+    pub may_be_undefined: bool,
+    pub may_be_true: bool,
+    pub may_be_false: bool,
 }
 
 /// What a tree may mean on the assignments of a box.

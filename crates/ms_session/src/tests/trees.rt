@@ -1,7 +1,7 @@
 //! The trees of the small models.
 ghost use Rattle.std.specs.Prelude.{◌≡◌, IfOk};
 ghost use Rattle.ms_trees.specs.declared.tree.Ground.TheVariants as tree;
-ghost use Rattle.ms_trees.specs.Fit.{IsTruth};
+ghost use Rattle.ms_trees.specs.WellFormed.{IsTruth};
 ghost use Rattle.ms_session.specs.Samples.{line, square};
 
 use ms_ground::Ground;

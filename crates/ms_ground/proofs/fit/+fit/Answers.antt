@@ -3,9 +3,9 @@ use Rattle.std.specs.Prelude.{option_map, int_le}
 use Rattle.std.proofs.lemmas.Int.{to_z-of_z}
 use Rattle.std.proofs.Math.ListN.{length-map}
 use Rattle.ms_num.specs.Span.{add_span, sub_span, mul_span, div_span, mod_span, neg_span, abs_span}
-use Rattle.ms_trees.specs.Reach as r
-use Rattle.ms_trees.specs.Reach.{reach, span_at}
-use Rattle.ms_trees.specs.Fit.{number, truth, numbers, truths, checked, fits, has_variable}
+use Rattle.ms_trees.specs.Enclosure as r
+use Rattle.ms_trees.specs.Enclosure.{enclosure, span_at}
+use Rattle.ms_trees.specs.WellFormed.{is_number, is_truth, are_numbers, are_truths, checked, fits, has_variable}
 use Rattle.ms_trees.specs.declared.tree.Ground.TheVariants as g
 use Rattle.ms_trees.specs.declared.tree.Ground.TheOpen as F
 use Rattle.ms_trees.proofs.Bools.{and_one}
@@ -33,43 +33,43 @@ number_is_fit-returns-in-Var t c =
 pub number_is_fit-returns-in-Add : goal.number_is_fit-returns-in-Add
 number_is_fit-returns-in-Add t c =
     rw c.in-Add.is
-    (rw (c.number.ensures, c.get.ensures, c.number-in-Add.ensures, c.get-in-Add.ensures) at c.sum_is_fit.ensures ∙ two_numbers c.args.sets.now (λ x y. fits (r.both add_span x.numbers y.numbers)) c.in-Add.a c.in-Add.b
+    (rw (c.number.ensures, c.get.ensures, c.number-in-Add.ensures, c.get-in-Add.ensures) at c.sum_is_fit.ensures ∙ two_numbers c.args.sets.now (λ x y. fits (r.both_intervals add_span x.interval y.interval)) c.in-Add.a c.in-Add.b
     ∙ number_is c.args.sets.now (g.Add c.in-Add.a c.in-Add.b) (F.Add c.in-Add.a c.in-Add.b) (g.outs-Add c.in-Add.a c.in-Add.b) refl)
 
 pub number_is_fit-returns-in-Sub : goal.number_is_fit-returns-in-Sub
 number_is_fit-returns-in-Sub t c =
     rw c.in-Sub.is
-    (rw (c.number-in-Sub.ensures, c.get-in-Sub.ensures, c.number-in-Sub-2.ensures, c.get-in-Sub-2.ensures) at c.difference_is_fit.ensures ∙ two_numbers c.args.sets.now (λ x y. fits (r.both sub_span x.numbers y.numbers)) c.in-Sub.a c.in-Sub.b
+    (rw (c.number-in-Sub.ensures, c.get-in-Sub.ensures, c.number-in-Sub-2.ensures, c.get-in-Sub-2.ensures) at c.difference_is_fit.ensures ∙ two_numbers c.args.sets.now (λ x y. fits (r.both_intervals sub_span x.interval y.interval)) c.in-Sub.a c.in-Sub.b
     ∙ number_is c.args.sets.now (g.Sub c.in-Sub.a c.in-Sub.b) (F.Sub c.in-Sub.a c.in-Sub.b) (g.outs-Sub c.in-Sub.a c.in-Sub.b) refl)
 
 pub number_is_fit-returns-in-Mul : goal.number_is_fit-returns-in-Mul
 number_is_fit-returns-in-Mul t c =
     rw c.in-Mul.is
-    (rw (c.number-in-Mul.ensures, c.get-in-Mul.ensures, c.number-in-Mul-2.ensures, c.get-in-Mul-2.ensures) at c.product_is_fit.ensures ∙ two_numbers c.args.sets.now (λ x y. fits (r.both mul_span x.numbers y.numbers)) c.in-Mul.a c.in-Mul.b
+    (rw (c.number-in-Mul.ensures, c.get-in-Mul.ensures, c.number-in-Mul-2.ensures, c.get-in-Mul-2.ensures) at c.product_is_fit.ensures ∙ two_numbers c.args.sets.now (λ x y. fits (r.both_intervals mul_span x.interval y.interval)) c.in-Mul.a c.in-Mul.b
     ∙ number_is c.args.sets.now (g.Mul c.in-Mul.a c.in-Mul.b) (F.Mul c.in-Mul.a c.in-Mul.b) (g.outs-Mul c.in-Mul.a c.in-Mul.b) refl)
 
 pub number_is_fit-returns-in-Div : goal.number_is_fit-returns-in-Div
 number_is_fit-returns-in-Div t c =
     rw c.in-Div.is
-    (rw (c.number-in-Div.ensures, c.get-in-Div.ensures, c.number-in-Div-2.ensures, c.get-in-Div-2.ensures) at c.quotient_is_fit.ensures ∙ two_numbers c.args.sets.now (λ x y. fits (r.both_some div_span x.numbers y.numbers)) c.in-Div.a c.in-Div.b
+    (rw (c.number-in-Div.ensures, c.get-in-Div.ensures, c.number-in-Div-2.ensures, c.get-in-Div-2.ensures) at c.quotient_is_fit.ensures ∙ two_numbers c.args.sets.now (λ x y. fits (r.both_partial div_span x.interval y.interval)) c.in-Div.a c.in-Div.b
     ∙ number_is c.args.sets.now (g.Div c.in-Div.a c.in-Div.b) (F.Div c.in-Div.a c.in-Div.b) (g.outs-Div c.in-Div.a c.in-Div.b) refl)
 
 pub number_is_fit-returns-in-Mod : goal.number_is_fit-returns-in-Mod
 number_is_fit-returns-in-Mod t c =
     rw c.in-Mod.is
-    (rw (c.number-in-Mod.ensures, c.get-in-Mod.ensures, c.number-in-Mod-2.ensures, c.get-in-Mod-2.ensures) at c.remainder_is_fit.ensures ∙ two_numbers c.args.sets.now (λ x y. fits (r.both_some mod_span x.numbers y.numbers)) c.in-Mod.a c.in-Mod.b
+    (rw (c.number-in-Mod.ensures, c.get-in-Mod.ensures, c.number-in-Mod-2.ensures, c.get-in-Mod-2.ensures) at c.remainder_is_fit.ensures ∙ two_numbers c.args.sets.now (λ x y. fits (r.both_partial mod_span x.interval y.interval)) c.in-Mod.a c.in-Mod.b
     ∙ number_is c.args.sets.now (g.Mod c.in-Mod.a c.in-Mod.b) (F.Mod c.in-Mod.a c.in-Mod.b) (g.outs-Mod c.in-Mod.a c.in-Mod.b) refl)
 
 pub number_is_fit-returns-in-Neg : goal.number_is_fit-returns-in-Neg
 number_is_fit-returns-in-Neg t c =
     rw c.in-Neg.is
-    (rw (c.number-in-Neg.ensures, c.get-in-Neg.ensures) at c.negation_is_fit.ensures ∙ one_number c.args.sets.now (λ x. fits (option_map neg_span x.numbers)) c.in-Neg.a
+    (rw (c.number-in-Neg.ensures, c.get-in-Neg.ensures) at c.negation_is_fit.ensures ∙ one_number c.args.sets.now (λ x. fits (option_map neg_span x.interval)) c.in-Neg.a
     ∙ number_is c.args.sets.now (g.Neg c.in-Neg.a) (F.Neg c.in-Neg.a) (g.outs-Neg c.in-Neg.a) refl)
 
 pub number_is_fit-returns-in-Abs : goal.number_is_fit-returns-in-Abs
 number_is_fit-returns-in-Abs t c =
     rw c.in-Abs.is
-    (rw (c.number-in-Abs.ensures, c.get-in-Abs.ensures) at c.magnitude_is_fit.ensures ∙ one_number c.args.sets.now (λ x. fits (option_map abs_span x.numbers)) c.in-Abs.a
+    (rw (c.number-in-Abs.ensures, c.get-in-Abs.ensures) at c.magnitude_is_fit.ensures ∙ one_number c.args.sets.now (λ x. fits (option_map abs_span x.interval)) c.in-Abs.a
     ∙ number_is c.args.sets.now (g.Abs c.in-Abs.a) (F.Abs c.in-Abs.a) (g.outs-Abs c.in-Abs.a) refl)
 
 pub number_is_fit-returns-in-Sum : goal.number_is_fit-returns-in-Sum
@@ -93,7 +93,7 @@ number_is_fit-returns-in-Greatest t c =
 pub number_is_fit-returns-in-ToInt : goal.number_is_fit-returns-in-ToInt
 number_is_fit-returns-in-ToInt t c =
     rw c.in-ToInt.is
-    (rw (c.truth.ensures, c.get-in-ToInt.ensures) at c.is_known.ensures ∙ one_truth c.args.sets.now c.in-ToInt.a ∙ ap (λ u. truth (checked c.args.sets.now c.in-ToInt.a) && u) (sym (bits_fit (reach c.args.sets.now c.in-ToInt.a).yes (reach c.args.sets.now c.in-ToInt.a).no))
+    (rw (c.truth.ensures, c.get-in-ToInt.ensures) at c.is_known.ensures ∙ one_truth c.args.sets.now c.in-ToInt.a ∙ ap (λ u. is_truth (checked c.args.sets.now c.in-ToInt.a) && u) (sym (bits_fit (enclosure c.args.sets.now c.in-ToInt.a).may_be_true (enclosure c.args.sets.now c.in-ToInt.a).may_be_false))
     ∙ number_is c.args.sets.now (g.ToInt c.in-ToInt.a) (F.ToInt c.in-ToInt.a) (g.outs-ToInt c.in-ToInt.a) refl)
 
 pub number_is_fit-returns-in-Elem : goal.number_is_fit-returns-in-Elem
@@ -102,8 +102,8 @@ number_is_fit-returns-in-Elem t c =
     let low : SFits w64 c.in-Elem.low = search rules in
     rw c.in-Elem.is
     (rw (c.number-i.ensures, c.get-in-Elem.ensures, c.as_slice-in-Elem.ensures, to_z-of_z w64 e.low low) at c.line_is_fit.ensures
-    ∙ one_number c.args.sets.now (λ i. numbers (map (checked c.args.sets.now) e.parts) && fits (r.joined (r.is_reached e.low i.numbers) 0 (map (reach c.args.sets.now) e.parts))) e.index
-    ∙ list_then_part (numbers (map (checked c.args.sets.now) e.parts)) (number (checked c.args.sets.now e.index)) (fits (r.joined (r.is_reached e.low (reach c.args.sets.now e.index).numbers) 0 (map (reach c.args.sets.now) e.parts)))
+    ∙ one_number c.args.sets.now (λ i. are_numbers (map (checked c.args.sets.now) e.parts) && fits (r.joined (r.is_reached e.low i.interval) 0 (map (enclosure c.args.sets.now) e.parts))) e.index
+    ∙ list_then_part (are_numbers (map (checked c.args.sets.now) e.parts)) (is_number (checked c.args.sets.now e.index)) (fits (r.joined (r.is_reached e.low (enclosure c.args.sets.now e.index).interval) 0 (map (enclosure c.args.sets.now) e.parts)))
     ∙ number_is c.args.sets.now (g.Elem c.in-Elem.low c.in-Elem.parts c.in-Elem.index) (F.Elem c.in-Elem.low c.in-Elem.parts c.in-Elem.index) (g.outs-Elem c.in-Elem.low c.in-Elem.parts c.in-Elem.index) refl)
 
 pub number_is_fit-returns-in-Elem2 : goal.number_is_fit-returns-in-Elem2
@@ -113,9 +113,9 @@ number_is_fit-returns-in-Elem2 t c =
     let left : SFits w64 c.in-Elem2.left = search rules in
     rw c.in-Elem2.is
     (rw (c.number-i-in-Elem2.ensures, c.get-in-Elem2.ensures, c.number-j.ensures, c.get-in-Elem2-2.ensures, c.as_slice-in-Elem2.ensures, to_z-of_z w64 e.low low, to_z-of_z w64 e.left left) at c.grid_is_fit.ensures
-    ∙ two_numbers c.args.sets.now (λ i j. numbers (map (checked c.args.sets.now) e.parts) && fits (r.joined (r.is_reached2 e.low e.left e.width (length e.parts) i.numbers j.numbers) 0 (map (reach c.args.sets.now) e.parts))) e.row e.column
-    ∙ list_then_parts (numbers (map (checked c.args.sets.now) e.parts)) (number (checked c.args.sets.now e.row)) (number (checked c.args.sets.now e.column)) (fits (r.joined (r.is_reached2 e.low e.left e.width (length e.parts) (reach c.args.sets.now e.row).numbers (reach c.args.sets.now e.column).numbers) 0 (map (reach c.args.sets.now) e.parts)))
-    ∙ ap (λ n. numbers (map (checked c.args.sets.now) e.parts) && number (checked c.args.sets.now e.row) && number (checked c.args.sets.now e.column) && fits (r.joined (r.is_reached2 e.low e.left e.width n (reach c.args.sets.now e.row).numbers (reach c.args.sets.now e.column).numbers) 0 (map (reach c.args.sets.now) e.parts))) (sym (length-map e.parts (reach c.args.sets.now)))
+    ∙ two_numbers c.args.sets.now (λ i j. are_numbers (map (checked c.args.sets.now) e.parts) && fits (r.joined (r.is_reached2 e.low e.left e.width (length e.parts) i.interval j.interval) 0 (map (enclosure c.args.sets.now) e.parts))) e.row e.column
+    ∙ list_then_parts (are_numbers (map (checked c.args.sets.now) e.parts)) (is_number (checked c.args.sets.now e.row)) (is_number (checked c.args.sets.now e.column)) (fits (r.joined (r.is_reached2 e.low e.left e.width (length e.parts) (enclosure c.args.sets.now e.row).interval (enclosure c.args.sets.now e.column).interval) 0 (map (enclosure c.args.sets.now) e.parts)))
+    ∙ ap (λ n. are_numbers (map (checked c.args.sets.now) e.parts) && is_number (checked c.args.sets.now e.row) && is_number (checked c.args.sets.now e.column) && fits (r.joined (r.is_reached2 e.low e.left e.width n (enclosure c.args.sets.now e.row).interval (enclosure c.args.sets.now e.column).interval) 0 (map (enclosure c.args.sets.now) e.parts))) (sym (length-map e.parts (enclosure c.args.sets.now)))
     ∙ number_is c.args.sets.now (g.Elem2 c.in-Elem2.low c.in-Elem2.left c.in-Elem2.width c.in-Elem2.parts c.in-Elem2.row c.in-Elem2.column) (F.Elem2 c.in-Elem2.low c.in-Elem2.left c.in-Elem2.width c.in-Elem2.parts c.in-Elem2.row c.in-Elem2.column) (g.outs-Elem2 c.in-Elem2.low c.in-Elem2.left c.in-Elem2.width c.in-Elem2.parts c.in-Elem2.row c.in-Elem2.column) refl)
 
 pub number_is_fit-returns-in-Count : goal.number_is_fit-returns-in-Count
@@ -123,14 +123,14 @@ number_is_fit-returns-in-Count t c =
     let e = c.in-Count in
     rw c.in-Count.is
     (rw (c.number-y.ensures, c.get-in-Count.ensures, c.as_slice-in-Count.ensures) at c.count_is_fit.ensures
-    ∙ one_number c.args.sets.now (λ y. numbers (map (checked c.args.sets.now) e.parts) && fits (r.counted (map (reach c.args.sets.now) e.parts) y).numbers) e.a
-    ∙ list_then_part (numbers (map (checked c.args.sets.now) e.parts)) (number (checked c.args.sets.now e.a)) (fits (r.counted (map (reach c.args.sets.now) e.parts) (reach c.args.sets.now e.a)).numbers)
+    ∙ one_number c.args.sets.now (λ y. are_numbers (map (checked c.args.sets.now) e.parts) && fits (r.counted_enclosure (map (enclosure c.args.sets.now) e.parts) y).interval) e.a
+    ∙ list_then_part (are_numbers (map (checked c.args.sets.now) e.parts)) (is_number (checked c.args.sets.now e.a)) (fits (r.counted_enclosure (map (enclosure c.args.sets.now) e.parts) (enclosure c.args.sets.now e.a)).interval)
     ∙ number_is c.args.sets.now (g.Count c.in-Count.parts c.in-Count.a) (F.Count c.in-Count.parts c.in-Count.a) (g.outs-Count c.in-Count.parts c.in-Count.a) refl)
 
 pub number_is_fit-returns-in-IteI : goal.number_is_fit-returns-in-IteI
 number_is_fit-returns-in-IteI t c =
     rw c.in-IteI.is
-    (rw (c.truth-in-IteI.ensures, c.get-in-IteI.ensures, c.number-in-IteI.ensures, c.get-in-IteI-2.ensures, c.number-in-IteI-2.ensures, c.get-in-IteI-3.ensures) at c.choice_is_fit.ensures ∙ number_choice c.args.sets.now (λ c x y. fits (r.either_number c x y).numbers) c.in-IteI.condition c.in-IteI.a c.in-IteI.b
+    (rw (c.truth-in-IteI.ensures, c.get-in-IteI.ensures, c.number-in-IteI.ensures, c.get-in-IteI-2.ensures, c.number-in-IteI-2.ensures, c.get-in-IteI-3.ensures) at c.choice_is_fit.ensures ∙ number_choice c.args.sets.now (λ c x y. fits (r.either_number c x y).interval) c.in-IteI.condition c.in-IteI.a c.in-IteI.b
     ∙ number_is c.args.sets.now (g.IteI c.in-IteI.condition c.in-IteI.a c.in-IteI.b) (F.IteI c.in-IteI.condition c.in-IteI.a c.in-IteI.b) (g.outs-IteI c.in-IteI.condition c.in-IteI.a c.in-IteI.b) refl)
 
 pub truth_is_fit-returns-in-True : goal.truth_is_fit-returns-in-True
@@ -152,13 +152,13 @@ truth_is_fit-returns-in-BVar t c =
 pub truth_is_fit-returns-in-And : goal.truth_is_fit-returns-in-And
 truth_is_fit-returns-in-And t c =
     rw c.in-And.is
-    (rw c.as_slice.ensures at c.all_truths.ensures ∙ sym (and_one (truths (map (checked c.args.sets.now) c.in-And.parts)))
+    (rw c.as_slice.ensures at c.all_truths.ensures ∙ sym (and_one (are_truths (map (checked c.args.sets.now) c.in-And.parts)))
     ∙ truth_is c.args.sets.now (g.And c.in-And.parts) (F.And c.in-And.parts) (g.outs-And c.in-And.parts) refl)
 
 pub truth_is_fit-returns-in-Or : goal.truth_is_fit-returns-in-Or
 truth_is_fit-returns-in-Or t c =
     rw c.in-Or.is
-    (rw c.as_slice-in-Or.ensures at c.all_truths-in-Or.ensures ∙ sym (and_one (truths (map (checked c.args.sets.now) c.in-Or.parts)))
+    (rw c.as_slice-in-Or.ensures at c.all_truths-in-Or.ensures ∙ sym (and_one (are_truths (map (checked c.args.sets.now) c.in-Or.parts)))
     ∙ truth_is c.args.sets.now (g.Or c.in-Or.parts) (F.Or c.in-Or.parts) (g.outs-Or c.in-Or.parts) refl)
 
 pub truth_is_fit-returns-in-Not : goal.truth_is_fit-returns-in-Not
@@ -224,11 +224,11 @@ truth_is_fit-returns-in-In t c =
 pub truth_is_fit-returns-in-AllDiff : goal.truth_is_fit-returns-in-AllDiff
 truth_is_fit-returns-in-AllDiff t c =
     rw c.in-AllDiff.is
-    (rw c.as_slice-in-AllDiff.ensures at c.all_numbers.ensures ∙ sym (and_one (numbers (map (checked c.args.sets.now) c.in-AllDiff.parts)))
+    (rw c.as_slice-in-AllDiff.ensures at c.all_numbers.ensures ∙ sym (and_one (are_numbers (map (checked c.args.sets.now) c.in-AllDiff.parts)))
     ∙ truth_is c.args.sets.now (g.AllDiff c.in-AllDiff.parts) (F.AllDiff c.in-AllDiff.parts) (g.outs-AllDiff c.in-AllDiff.parts) refl)
 
 pub truth_is_fit-returns-in-Table : goal.truth_is_fit-returns-in-Table
 truth_is_fit-returns-in-Table t c =
     rw c.in-Table.is
-    (rw c.as_slice-in-Table.ensures at c.all_numbers-in-Table.ensures ∙ sym (and_one (numbers (map (checked c.args.sets.now) c.in-Table.parts)))
+    (rw c.as_slice-in-Table.ensures at c.all_numbers-in-Table.ensures ∙ sym (and_one (are_numbers (map (checked c.args.sets.now) c.in-Table.parts)))
     ∙ truth_is c.args.sets.now (g.Table c.in-Table.parts c.in-Table._rows) (F.Table c.in-Table.parts c.in-Table._rows) (g.outs-Table c.in-Table.parts c.in-Table._rows) refl)

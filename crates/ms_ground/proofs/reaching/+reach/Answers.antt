@@ -4,23 +4,23 @@ use Rattle.std.proofs.lemmas.Int.{to_z-of_z}
 use Rattle.std.proofs.lemmas.List.{drop_all}
 use Rattle.std.proofs.Math.ListN.{length-set}
 use Rattle.ms_num.specs.Span.{point, has, join_some}
-use Rattle.ms_trees.specs.Reach as r
-use Rattle.ms_trees.specs.Reach.{reach}
-use Rattle.ms_ground.specs.Kept.{numbers_of, part}
-use Rattle.ms_spans.specs.Access.{reaches}
-use Rattle.ms_spans.specs.Extreme.{extreme_span}
-use Rattle.ms_ground.proofs.Onward.{onward_on}
-use Rattle.ms_spans.specs.Room.{lies_in}
-use Rattle.ms_trees.specs.declared.tree.Reach.{Reach}
+use Rattle.ms_trees.specs.Enclosure as r
+use Rattle.ms_trees.specs.Enclosure.{enclosure}
+use Rattle.ms_trees.specs.Kept.{numbers_of, part}
+use Rattle.ms_trees.specs.Access.{reaches}
+use Rattle.ms_trees.specs.Extreme.{extreme_span}
+use Rattle.ms_trees.proofs.Onward.{onward_on}
+use Rattle.ms_ground.specs.Room.{lies_in}
+use Rattle.ms_trees.specs.declared.tree.Enclosure.{Enclosure}
 use Rattle.ms_trees.specs.declared.tree.Ground.TheFolds.{the_lemmas}
 use Rattle.ms_trees.proofs.Bools.{ap2, or_none}
-use Rattle.ms_tree_laws.proofs.Fits.{fit-Abs, fit-Add, fit-AllDiff, fit-And, fit-BVar, fit-Count, fit-Div, fit-Elem, fit-Elem2, fit-Eq, fit-Greatest, fit-Iff, fit-Imp, fit-In, fit-IteB, fit-IteI, fit-Le, fit-Least, fit-Lt, fit-Mod, fit-Mul, fit-Ne, fit-Neg, fit-Not, fit-Or, fit-Sub, fit-Sum, fit-Table, fit-ToInt, fit-Var, fit-Xor, fit-sums, fits-Num, fits-Add, fits-Sub, fits-Mul, drop_here, spans_on, truths_on, read_default}
-use Rattle.ms_ground.proofs.Walks.{counted_one, at_most_one}
+use Rattle.ms_trees.proofs.Fits.{fit-Abs, fit-Add, fit-AllDiff, fit-And, fit-BVar, fit-Count, fit-Div, fit-Elem, fit-Elem2, fit-Eq, fit-Greatest, fit-Iff, fit-Imp, fit-In, fit-IteB, fit-IteI, fit-Le, fit-Least, fit-Lt, fit-Mod, fit-Mul, fit-Ne, fit-Neg, fit-Not, fit-Or, fit-Sub, fit-Sum, fit-Table, fit-ToInt, fit-Var, fit-Xor, fit-sums, fits-Num, fits-Add, fits-Sub, fits-Mul, drop_here, spans_on, truths_on, read_default}
+use Rattle.ms_trees.proofs.Walks.{counted_one, at_most_one}
 use Rattle.ms_ground.proofs.Boxes.{PlaceOn, parts_on, onward_end, join_end, place_taken, place_passed, elem_reach, elem2_reach, count_interval}
-use Rattle.ms_tree_laws.proofs.Smaller.{truth_some}
+use Rattle.ms_trees.proofs.Smaller.{truth_some}
 use Rattle.ms_ground.proofs.Distinct.{spans_over, meets_on, between_room, wide_room}
-use Rattle.ms_ground.proofs.Keeping.{part_here, part_read, kept_next}
-use Rattle.ms_ground.proofs.Rowed.{no_row_on, row_on, entry_here}
+use Rattle.ms_trees.proofs.Keeping.{part_here, part_read, kept_next}
+use Rattle.ms_trees.proofs.Rowed.{no_row_on, row_on, entry_here}
 use Rattle.ms_ground.proofs.reaching.+reach.Goals as goal
 use Rattle.ms_ground.proofs.reaching.+reach.Goals.{selected_on-then-reaches, selected_on-else-reaches}
 
@@ -95,7 +95,7 @@ numbers_on-returns-in-Elem t c =
     let low : SFits w64 e.low = search rules in
     rw e.is
     (rw (c.along-access.ensures, c.misses-none.ensures, to_z-of_z w64 e.low low, c.as_slice-in-Elem.ensures, c.len.ensures, c.numbers_on-i.ensures, c.get-in-Elem.ensures) at c.selected_on.ensures
-    ∙ ap (λ (q : Reach). r.numeric q.numbers q.undefined) (elem_reach c.args.sets.now e.low e.parts e.index))
+    ∙ ap (λ (q : Enclosure). r.numeric_enclosure q.interval q.may_be_undefined) (elem_reach c.args.sets.now e.low e.parts e.index))
 
 pub numbers_on-returns-in-Elem2 : goal.numbers_on-returns-in-Elem2
 numbers_on-returns-in-Elem2 t c =
@@ -104,7 +104,7 @@ numbers_on-returns-in-Elem2 t c =
     let left : SFits w64 e.left = search rules in
     rw e.is
     (rw (c.over-access.ensures, c.misses_grid-none.ensures, to_z-of_z w64 e.low low, to_z-of_z w64 e.left left, c.as_slice-in-Elem2.ensures, c.len-in-Elem2.ensures, c.len-in-Elem2-2.ensures, c.numbers_on-i-in-Elem2.ensures, c.get-in-Elem2.ensures, c.numbers_on-j.ensures, c.get-in-Elem2-2.ensures) at c.selected_on-in-Elem2.ensures
-    ∙ ap (λ (q : Reach). r.numeric q.numbers q.undefined) (elem2_reach c.args.sets.now e.low e.left e.width e.parts e.row e.column))
+    ∙ ap (λ (q : Enclosure). r.numeric_enclosure q.interval q.may_be_undefined) (elem2_reach c.args.sets.now e.low e.left e.width e.parts e.row e.column))
 
 pub numbers_on-numbers_on-y-requires-in-Count : goal.numbers_on-numbers_on-y-requires-in-Count
 numbers_on-numbers_on-y-requires-in-Count t c = (search (rules, the_lemmas), rw c.get-in-Count.ensures ((fit-Count _ _ _ (rw c.in-Count.is at c.requires)).beside.fit))
@@ -213,20 +213,20 @@ pub numbers_on-returns-in-Var : goal.numbers_on-returns-in-Var
 numbers_on-returns-in-Var t c =
     let n = c.index-sets-v.result in
     c.numeric-in-Var.ensures
-    ∙ ap (λ s. r.numeric (Some s) false) (c.index-sets-v.is ∙ read_default c.args.sets.now c.in-Var.v n (point (pos 0)) (fit-Var c.args.sets.now c.in-Var.v (rw c.in-Var.is at c.requires)).within)
+    ∙ ap (λ s. r.numeric_enclosure (Some s) false) (c.index-sets-v.is ∙ read_default c.args.sets.now c.in-Var.v n (point (pos 0)) (fit-Var c.args.sets.now c.in-Var.v (rw c.in-Var.is at c.requires)).within)
     ∙ sym (rw c.in-Var.is (search the_lemmas))
 
 pub truths_on-returns-in-BVar : goal.truths_on-returns-in-BVar
 truths_on-returns-in-BVar t c =
     let n = c.index-sets-v.result in
-    let read : r.boolean c.has.result c.has-in-BVar.result ≡ r.boolean (has (get_or c.args.sets.now c.in-BVar.v (point (pos 0))) (pos 1)) (has (get_or c.args.sets.now c.in-BVar.v (point (pos 0))) (pos 0)) = rw (c.has.ensures, c.has-in-BVar.ensures) (ap (λ s. r.boolean (has s (pos 1)) (has s (pos 0))) (c.index-sets-v.is ∙ read_default c.args.sets.now c.in-BVar.v n (point (pos 0)) (fit-BVar c.args.sets.now c.in-BVar.v (rw c.in-BVar.is at c.requires)).within)) in
+    let read : r.boolean_enclosure c.has.result c.has-in-BVar.result ≡ r.boolean_enclosure (has (get_or c.args.sets.now c.in-BVar.v (point (pos 0))) (pos 1)) (has (get_or c.args.sets.now c.in-BVar.v (point (pos 0))) (pos 0)) = rw (c.has.ensures, c.has-in-BVar.ensures) (ap (λ s. r.boolean_enclosure (has s (pos 1)) (has s (pos 0))) (c.index-sets-v.is ∙ read_default c.args.sets.now c.in-BVar.v n (point (pos 0)) (fit-BVar c.args.sets.now c.in-BVar.v (rw c.in-BVar.is at c.requires)).within)) in
     c.boolean-in-BVar.ensures ∙ read ∙ sym (rw c.in-BVar.is (search the_lemmas))
 
 pub sum_on-loop-part-preserved : goal.sum_on-loop-part-preserved
 sum_on-loop-part-preserved t c =
     let l = c.loop-part in
     let on = spans_on c.args.sets.now _ _ c.part-item.result l.total c.numbers_on-x.result (drop_here c.args.parts.now l.part-index c.part-item.result (omega arith) c.part-item.is) c.numbers_on-x.ensures l.invariant.fit l.invariant.narrow in
-    record { fit = on.fit; narrow = rw c.sum-total.ensures on.narrow; rest = rw c.sum-total.ensures (sym on.total ∙ l.invariant.rest); undefined = sym (on.undefined l.undefined) ∙ l.invariant.undefined }
+    record { fit = on.fit; narrow = rw c.sum-total.ensures on.narrow; rest = rw c.sum-total.ensures (sym on.total ∙ l.invariant.rest); may_be_undefined = sym (on.may_be_undefined l.may_be_undefined) ∙ l.invariant.may_be_undefined }
 
 pub extreme_on-loop-part-preserved : goal.extreme_on-loop-part-preserved
 extreme_on-loop-part-preserved t c =
@@ -240,8 +240,8 @@ extreme_on-returns-in-Some t c =
     let none : drop l.part-index c.args.parts.now ≡ [] = drop_all l.part-index c.args.parts.now c.loop-part-test.false in
     let f = extreme_span c.args.which in
     c.numeric.ensures ∙ sym (onward_end f c.in-Some.best)
-    ∙ ap (λ zs. onward_on f (Some c.in-Some.best) (map (reach c.args.sets.now) zs)) (sym none)
-    ∙ ap (λ o. onward_on f o (map (reach c.args.sets.now) (drop l.part-index c.args.parts.now))) (sym c.in-Some.is) ∙ l.invariant.rest
+    ∙ ap (λ zs. onward_on f (Some c.in-Some.best) (map (enclosure c.args.sets.now) zs)) (sym none)
+    ∙ ap (λ o. onward_on f o (map (enclosure c.args.sets.now) (drop l.part-index c.args.parts.now))) (sym c.in-Some.is) ∙ l.invariant.rest
 
 pub extreme_on-returns-in-None : goal.extreme_on-returns-in-None
 extreme_on-returns-in-None t c =
@@ -249,8 +249,8 @@ extreme_on-returns-in-None t c =
     let none : drop l.part-index c.args.parts.now ≡ [] = drop_all l.part-index c.args.parts.now c.loop-part-test.false in
     let f = extreme_span c.args.which in
     c.numeric-in-None.ensures
-    ∙ ap (λ zs. onward_on f None (map (reach c.args.sets.now) zs)) (sym none)
-    ∙ ap (λ o. onward_on f o (map (reach c.args.sets.now) (drop l.part-index c.args.parts.now))) (sym c.in-None.is) ∙ l.invariant.rest
+    ∙ ap (λ zs. onward_on f None (map (enclosure c.args.sets.now) zs)) (sym none)
+    ∙ ap (λ o. onward_on f o (map (enclosure c.args.sets.now) (drop l.part-index c.args.parts.now))) (sym c.in-None.is) ∙ l.invariant.rest
 
 pub selected_on-loop-place-preserved : goal.selected_on-loop-place-preserved
 selected_on-loop-place-preserved t c =
@@ -260,48 +260,48 @@ selected_on-loop-place-preserved t c =
       | selected_on-then-reaches w ↦ place_taken c.args.sets.now c.args.parts.now (reaches c.args.access.now) l.place w.index-parts-place.result c.loop-place-test.true w.index-parts-place.is l.invariant.fit l.so_far c.if-reaches.so_far w.numbers_on.result (sym c.reaches.ensures ∙ w.if-reaches.true) w.numbers_on.ensures (w.so_far-is ∙ w.gather-so_far.ensures)
       | selected_on-else-reaches w ↦ place_passed c.args.sets.now c.args.parts.now (reaches c.args.access.now) l.place c.loop-place-test.true l.invariant.fit l.so_far c.if-reaches.so_far (sym c.reaches.ensures ∙ w.if-reaches.false) w.so_far-is
     ] in
-    record { fit = on.fit; numbers = on.numbers_next ∙ l.invariant.numbers; undefined = on.undefined_next ∙ l.invariant.undefined }
+    record { fit = on.fit; interval = on.numbers_next ∙ l.invariant.interval; may_be_undefined = on.undefined_next ∙ l.invariant.may_be_undefined }
 
 pub selected_on-returns : goal.selected_on-returns
 selected_on-returns t c =
     let l = c.loop-place in
     let none : drop l.place c.args.parts.now ≡ [] = drop_all l.place c.args.parts.now c.loop-place-test.false in
     let k = reaches c.args.access.now in
-    let i : l.so_far.numbers ≡ r.joined k 0 (map (reach c.args.sets.now) c.args.parts.now) = sym (join_end l.so_far.numbers) ∙ ap (λ zs. join_some l.so_far.numbers (r.joined k l.place (map (reach c.args.sets.now) zs))) (sym none) ∙ l.invariant.numbers in
-    let u : l.so_far.undefined ≡ (c.args.none || r.reached_undefined k 0 (map (reach c.args.sets.now) c.args.parts.now)) = sym (or_none l.so_far.undefined) ∙ ap (λ zs. l.so_far.undefined || r.reached_undefined k l.place (map (reach c.args.sets.now) zs)) (sym none) ∙ l.invariant.undefined in
-    c.numeric.ensures ∙ ap2 r.numeric i u
+    let i : l.so_far.interval ≡ r.joined k 0 (map (enclosure c.args.sets.now) c.args.parts.now) = sym (join_end l.so_far.interval) ∙ ap (λ zs. join_some l.so_far.interval (r.joined k l.place (map (enclosure c.args.sets.now) zs))) (sym none) ∙ l.invariant.interval in
+    let u : l.so_far.may_be_undefined ≡ (c.args.none || r.reached_undefined k 0 (map (enclosure c.args.sets.now) c.args.parts.now)) = sym (or_none l.so_far.may_be_undefined) ∙ ap (λ zs. l.so_far.may_be_undefined || r.reached_undefined k l.place (map (enclosure c.args.sets.now) zs)) (sym none) ∙ l.invariant.may_be_undefined in
+    c.numeric.ensures ∙ ap2 r.numeric_enclosure i u
 
 pub count_on-loop-part-preserved : goal.count_on-loop-part-preserved
 count_on-loop-part-preserved t c =
     let l = c.loop-part in
     let x = c.numbers_on-x.result in
-    let y = c.args.y.numbers in
+    let y = c.args.y.interval in
     let on = parts_on c.args.sets.now _ _ c.part-item.result x (drop_here c.args.parts.now l.part-index c.part-item.result (omega arith) c.part-item.is) c.numbers_on-x.ensures l.invariant.fit in
-    let same : c.one_if-certain.result ≡ (if r.compare r.same_single x.numbers y then 1 else 0) = rw c.are_one.ensures at c.one_if-certain.ensures in
-    let meets : c.one_if-possible.result ≡ (if r.compare r.meets x.numbers y then 1 else 0) = rw c.meets.ensures at c.one_if-possible.ensures in
-    let few = at_most_one (r.compare r.same_single x.numbers y) c.one_if-certain.result same in
-    let more = at_most_one (r.compare r.meets x.numbers y) c.one_if-possible.result meets in
+    let same : c.one_if-certain.result ≡ (if r.compare_intervals r.same_single x.interval y then 1 else 0) = rw c.are_one.ensures at c.one_if-certain.ensures in
+    let meets : c.one_if-possible.result ≡ (if r.compare_intervals r.meets x.interval y then 1 else 0) = rw c.meets.ensures at c.one_if-possible.ensures in
+    let few = at_most_one (r.compare_intervals r.same_single x.interval y) c.one_if-certain.result same in
+    let more = at_most_one (r.compare_intervals r.meets x.interval y) c.one_if-possible.result meets in
     record {
       fit = on.fit;
       defined = rw c.is_some-defined.ensures (sym (on.defined l.defined) ∙ l.invariant.defined);
-      undefined = sym (on.undefined l.undefined) ∙ l.invariant.undefined;
+      may_be_undefined = sym (on.may_be_undefined l.may_be_undefined) ∙ l.invariant.may_be_undefined;
       few = omega (arith, few, l.invariant.few);
       more = omega (arith, more, l.invariant.more);
-      certain = counted_one (r.compare r.same_single x.numbers y) l.certain c.one_if-certain.result _ _ same (on.many (λ o. r.compare r.same_single o y)) ∙ l.invariant.certain;
-      possible = counted_one (r.compare r.meets x.numbers y) l.possible c.one_if-possible.result _ _ meets (on.many (λ o. r.compare r.meets o y)) ∙ l.invariant.possible;
+      certain = counted_one (r.compare_intervals r.same_single x.interval y) l.certain c.one_if-certain.result _ _ same (on.many (λ o. r.compare_intervals r.same_single o y)) ∙ l.invariant.certain;
+      possible = counted_one (r.compare_intervals r.meets x.interval y) l.possible c.one_if-possible.result _ _ meets (on.many (λ o. r.compare_intervals r.meets o y)) ∙ l.invariant.possible;
     }
 
 pub all_on-loop-part-preserved : goal.all_on-loop-part-preserved
 all_on-loop-part-preserved t c =
     let l = c.loop-part in
     let on = truths_on c.args.sets.now _ _ c.part-item.result c.truths_on-x.result (drop_here c.args.parts.now l.part-index c.part-item.result (omega arith) c.part-item.is) c.truths_on-x.ensures l.invariant.fit in
-    record { fit = on.fit; yes = sym (on.all_yes l.yes) ∙ l.invariant.yes; no = sym (on.any_no l.no) ∙ l.invariant.no }
+    record { fit = on.fit; may_be_true = sym (on.all_yes l.may_be_true) ∙ l.invariant.may_be_true; may_be_false = sym (on.any_no l.may_be_false) ∙ l.invariant.may_be_false }
 
 pub any_on-loop-part-preserved : goal.any_on-loop-part-preserved
 any_on-loop-part-preserved t c =
     let l = c.loop-part in
     let on = truths_on c.args.sets.now _ _ c.part-item.result c.truths_on-x.result (drop_here c.args.parts.now l.part-index c.part-item.result (omega arith) c.part-item.is) c.truths_on-x.ensures l.invariant.fit in
-    record { fit = on.fit; yes = sym (on.any_yes l.yes) ∙ l.invariant.yes; no = sym (on.all_no l.no) ∙ l.invariant.no }
+    record { fit = on.fit; may_be_true = sym (on.any_yes l.may_be_true) ∙ l.invariant.may_be_true; may_be_false = sym (on.all_no l.may_be_false) ∙ l.invariant.may_be_false }
 
 pub truths_on-distinct_on-requires : goal.truths_on-distinct_on-requires
 truths_on-distinct_on-requires t c = (search (rules, the_lemmas), rw c.as_slice-in-AllDiff.ensures (fit-AllDiff _ _ (rw c.in-AllDiff.is at c.requires)))
@@ -321,7 +321,7 @@ first_reaches-loop-place-preserved t c =
     record {
       fit = on.fit;
       size = length-set l.kept l.place q ∙ l.invariant.size;
-      kept = kept_next l.kept (r.numeric None false) q (λ k. numbers_of c.args.sets.now (part c.args.parts.now k)) l.place room same l.invariant.kept;
+      kept = kept_next l.kept (r.numeric_enclosure None false) q (λ k. numbers_of c.args.sets.now (part c.args.parts.now k)) l.place room same l.invariant.kept;
     }
 
 pub first_reaches-returns : goal.first_reaches-returns
@@ -331,20 +331,20 @@ pub all_have_room-loop-place-preserved : goal.all_have_room-loop-place-preserved
 all_have_room-loop-place-preserved t c =
     let l = c.loop-place in
     let q = c.reach_at.result in
-    let rs = map (reach c.args.sets.now) c.args.parts.now in
+    let rs = map (enclosure c.args.sets.now) c.args.parts.now in
     let on = spans_over c.args.sets.now _ _ (part c.args.parts.now l.place) q (part_here c.args.parts.now l.place c.loop-place-test.true) c.reach_at.ensures l.invariant.fit in
-    let some : is_some q.numbers ≡ true = ap (λ o. is_some o) c.in-Some.is in
-    let room : r.room_from rs q.numbers ≡ true = ap (r.room_from rs) c.in-Some.is ∙ sym c.has_room_from.ensures ∙ c.if-not-has_room_from.false in
+    let some : is_some q.interval ≡ true = ap (λ o. is_some o) c.in-Some.is in
+    let room : r.room_from rs q.interval ≡ true = ap (r.room_from rs) c.in-Some.is ∙ sym c.has_room_from.ensures ∙ c.if-not-has_room_from.false in
     record { fit = on.fit; rest = sym (ap2 (λ x y. x && y) (on.all (λ o. is_some o) true (sym some)) (on.all (r.room_from rs) true (sym room))) ∙ l.invariant.rest }
 
 pub has_room_from-loop-place-preserved : goal.has_room_from-loop-place-preserved
 has_room_from-loop-place-preserved t c =
     let l = c.loop-place in
     let q = c.reach_at.result in
-    let rs = map (reach c.args.sets.now) c.args.parts.now in
+    let rs = map (enclosure c.args.sets.now) c.args.parts.now in
     let on = spans_over c.args.sets.now _ _ (part c.args.parts.now l.place) q (part_here c.args.parts.now l.place c.loop-place-test.true) c.reach_at.ensures l.invariant.fit in
-    let room = rw c.between-range.ensures at c.has_room_on.ensures ∙ between_room rs c.args.start q.numbers in
-    record { fit = on.fit; rest = rw c.if-not-has_room_on.false at (sym (on.all (λ o. not (r.compare (λ s t. not (r.has_room s.lo t.hi rs)) (Some c.args.start) o)) c.has_room_on.result room)) ∙ l.invariant.rest }
+    let room = rw c.between-range.ensures at c.has_room_on.ensures ∙ between_room rs c.args.start q.interval in
+    record { fit = on.fit; rest = rw c.if-not-has_room_on.false at (sym (on.all (λ o. not (r.compare_intervals (λ s t. not (r.has_room s.lo t.hi rs)) (Some c.args.start) o)) c.has_room_on.result room)) ∙ l.invariant.rest }
 
 pub has_room_on-returns-then-has_many : goal.has_room_on-returns-then-has_many
 has_room_on-returns-then-has_many t c = rw c.in-Some.is (wide_room c.in-Some.range c.args.sets.now c.args.parts.now (sym c.has_many.ensures.value ∙ c.if-has_many.true))
@@ -355,12 +355,12 @@ has_room_on-loop-place-preserved t c =
     let q = c.reach_at.result in
     let range = c.in-Some.range in
     let on = parts_on c.args.sets.now _ _ (part c.args.parts.now l.place) q (part_here c.args.parts.now l.place c.loop-place-test.true) c.reach_at.ensures l.invariant.fit in
-    let one : c.one_if-held.result ≡ (if r.test (lies_in range) q.numbers then 1 else 0) = rw c.lies_in.ensures at c.one_if-held.ensures in
-    let few = at_most_one (r.test (lies_in range) q.numbers) c.one_if-held.result one in
+    let one : c.one_if-held.result ≡ (if r.test_interval (lies_in range) q.interval then 1 else 0) = rw c.lies_in.ensures at c.one_if-held.ensures in
+    let few = at_most_one (r.test_interval (lies_in range) q.interval) c.one_if-held.result one in
     record {
       fit = on.fit;
       few = omega (arith, few, l.invariant.few);
-      rest = counted_one (r.test (lies_in range) q.numbers) l.held c.one_if-held.result _ _ one (on.many (λ o. r.test (lies_in range) o)) ∙ l.invariant.rest;
+      rest = counted_one (r.test_interval (lies_in range) q.interval) l.held c.one_if-held.result _ _ one (on.many (λ o. r.test_interval (lies_in range) o)) ∙ l.invariant.rest;
     }
 
 pub some_meet_on-loop-place-preserved : goal.some_meet_on-loop-place-preserved
@@ -379,13 +379,13 @@ pub first_meets_on-loop-later-preserved : goal.first_meets_on-loop-later-preserv
 first_meets_on-loop-later-preserved t c =
     let l = c.loop-later in
     let on = spans_over c.args.sets.now _ _ (part c.args.parts.now l.later) c.reach_at.result (part_here c.args.parts.now l.later c.loop-later-test.true) c.reach_at.ensures l.invariant.fit in
-    record { fit = on.fit; rest = rw c.if-meets.false at (sym (on.any (λ o. r.compare r.meets c.reach_at-x.result.numbers o) c.meets.result c.meets.ensures)) ∙ l.invariant.rest }
+    record { fit = on.fit; rest = rw c.if-meets.false at (sym (on.any (λ o. r.compare_intervals r.meets c.reach_at-x.result.interval o) c.meets.result c.meets.ensures)) ∙ l.invariant.rest }
 
 pub first_meets_on-returns-then-meets : goal.first_meets_on-returns-then-meets
 first_meets_on-returns-then-meets t c =
     let l = c.loop-later in
     let on = spans_over c.args.sets.now _ _ (part c.args.parts.now l.later) c.reach_at.result (part_here c.args.parts.now l.later c.loop-later-test.true) c.reach_at.ensures l.invariant.fit in
-    rw c.if-meets.true at (sym (on.any (λ o. r.compare r.meets c.reach_at-x.result.numbers o) c.meets.result c.meets.ensures)) ∙ l.invariant.rest
+    rw c.if-meets.true at (sym (on.any (λ o. r.compare_intervals r.meets c.reach_at-x.result.interval o) c.meets.result c.meets.ensures)) ∙ l.invariant.rest
 
 pub some_unsure_on-loop-place-preserved : goal.some_unsure_on-loop-place-preserved
 some_unsure_on-loop-place-preserved t c =

@@ -3,113 +3,113 @@ use Rattle.std.specs.Prelude.{pos}
 use Rattle.ms_num.specs.Span.{add_span, point, join_some}
 use Rattle.ms_trees.specs.Value.{how_many}
 use Rattle.std.specs.List.{list_any, list_all}
-use Rattle.ms_spans.specs.Room.{first_meets}
-use Rattle.ms_trees.specs.Reach.{reach, folded, any_undefined, all_yes, any_no, any_yes, all_no, all_some, extreme, joined, reached_undefined, compare, same_single, meets, has_room, room_from, held, some_meet, some_several, may_be_row, numeric}
-use Rattle.ms_ground.specs.Kept.{numbers_of, part}
-use Rattle.ms_spans.specs.Access.{reaches}
-use Rattle.ms_spans.specs.Extreme.{extreme_span}
-use Rattle.ms_ground.proofs.Onward.{onward_on}
-use Rattle.ms_trees.specs.Fit.{numbers, truths, sums_fit, checked}
-use Rattle.ms_trees.specs.declared.tree.Reach.{Reach}
+use Rattle.ms_ground.specs.Room.{first_meets}
+use Rattle.ms_trees.specs.Enclosure.{enclosure, folded_intervals, any_may_be_undefined, all_may_be_true, any_may_be_false, any_may_be_true, all_may_be_false, all_some, extreme_enclosure, joined, reached_undefined, compare_intervals, same_single, meets, has_room, room_from, held, some_meet, some_several, may_be_row, numeric_enclosure}
+use Rattle.ms_trees.specs.Kept.{numbers_of, part}
+use Rattle.ms_trees.specs.Access.{reaches}
+use Rattle.ms_trees.specs.Extreme.{extreme_span}
+use Rattle.ms_trees.proofs.Onward.{onward_on}
+use Rattle.ms_trees.specs.WellFormed.{are_numbers, are_truths, sums_fit, checked}
+use Rattle.ms_trees.specs.declared.tree.Enclosure.{Enclosure}
 use Rattle.ms_ground.proofs.reaching.+reach.Given as goal
 
 abbrev pub invariant-sum_on-loop-part : goal.invariant-sum_on-loop-part
 invariant-sum_on-loop-part l = record {
-  fit : numbers (map (checked l.sets) (drop l.part-index l.parts)) ≡ true;
-  narrow : sums_fit l.total (map (reach l.sets) (drop l.part-index l.parts)) ≡ true;
-  rest : folded add_span l.total (map (reach l.sets) (drop l.part-index l.parts)) ≡ folded add_span (Some (point (pos 0))) (map (reach l.sets) l.parts);
-  undefined : (l.undefined || any_undefined (map (reach l.sets) (drop l.part-index l.parts))) ≡ any_undefined (map (reach l.sets) l.parts);
+  fit : are_numbers (map (checked l.sets) (drop l.part-index l.parts)) ≡ true;
+  narrow : sums_fit l.total (map (enclosure l.sets) (drop l.part-index l.parts)) ≡ true;
+  rest : folded_intervals add_span l.total (map (enclosure l.sets) (drop l.part-index l.parts)) ≡ folded_intervals add_span (Some (point (pos 0))) (map (enclosure l.sets) l.parts);
+  may_be_undefined : (l.may_be_undefined || any_may_be_undefined (map (enclosure l.sets) (drop l.part-index l.parts))) ≡ any_may_be_undefined (map (enclosure l.sets) l.parts);
 }
 
 abbrev pub invariant-extreme_on-loop-part : goal.invariant-extreme_on-loop-part
 invariant-extreme_on-loop-part l = record {
-  fit : numbers (map (checked l.sets) (drop l.part-index l.parts)) ≡ true;
-  rest : onward_on (extreme_span l.which) l.best (map (reach l.sets) (drop l.part-index l.parts)) ≡ extreme (extreme_span l.which) (map (reach l.sets) l.parts);
+  fit : are_numbers (map (checked l.sets) (drop l.part-index l.parts)) ≡ true;
+  rest : onward_on (extreme_span l.which) l.best (map (enclosure l.sets) (drop l.part-index l.parts)) ≡ extreme_enclosure (extreme_span l.which) (map (enclosure l.sets) l.parts);
 }
 
 abbrev pub invariant-selected_on-loop-place : goal.invariant-selected_on-loop-place
 invariant-selected_on-loop-place l = record {
-  fit : numbers (map (checked l.sets) (drop l.place l.parts)) ≡ true;
-  numbers : join_some l.so_far.numbers (joined (reaches l.access) l.place (map (reach l.sets) (drop l.place l.parts))) ≡ joined (reaches l.access) 0 (map (reach l.sets) l.parts);
-  undefined : (l.so_far.undefined || reached_undefined (reaches l.access) l.place (map (reach l.sets) (drop l.place l.parts))) ≡ (l.fn.none || reached_undefined (reaches l.access) 0 (map (reach l.sets) l.parts));
+  fit : are_numbers (map (checked l.sets) (drop l.place l.parts)) ≡ true;
+  interval : join_some l.so_far.interval (joined (reaches l.access) l.place (map (enclosure l.sets) (drop l.place l.parts))) ≡ joined (reaches l.access) 0 (map (enclosure l.sets) l.parts);
+  may_be_undefined : (l.so_far.may_be_undefined || reached_undefined (reaches l.access) l.place (map (enclosure l.sets) (drop l.place l.parts))) ≡ (l.fn.none || reached_undefined (reaches l.access) 0 (map (enclosure l.sets) l.parts));
 }
 
 abbrev pub invariant-count_on-loop-part : goal.invariant-count_on-loop-part
 invariant-count_on-loop-part l = record {
-  fit : numbers (map (checked l.sets) (drop l.part-index l.parts)) ≡ true;
-  defined : (l.defined && all_some (map (reach l.sets) (drop l.part-index l.parts))) ≡ all_some (map (reach l.sets) l.parts);
-  undefined : (l.undefined || any_undefined (map (reach l.sets) (drop l.part-index l.parts))) ≡ (l.fn.y.undefined || any_undefined (map (reach l.sets) l.parts));
+  fit : are_numbers (map (checked l.sets) (drop l.part-index l.parts)) ≡ true;
+  defined : (l.defined && all_some (map (enclosure l.sets) (drop l.part-index l.parts))) ≡ all_some (map (enclosure l.sets) l.parts);
+  may_be_undefined : (l.may_be_undefined || any_may_be_undefined (map (enclosure l.sets) (drop l.part-index l.parts))) ≡ (l.fn.y.may_be_undefined || any_may_be_undefined (map (enclosure l.sets) l.parts));
   few : l.certain ≤ l.part-index;
   more : l.possible ≤ l.part-index;
-  certain : l.certain + how_many (λ (x : Reach). compare same_single x.numbers l.fn.y.numbers) (map (reach l.sets) (drop l.part-index l.parts)) ≡ how_many (λ (x : Reach). compare same_single x.numbers l.fn.y.numbers) (map (reach l.sets) l.parts);
-  possible : l.possible + how_many (λ (x : Reach). compare meets x.numbers l.fn.y.numbers) (map (reach l.sets) (drop l.part-index l.parts)) ≡ how_many (λ (x : Reach). compare meets x.numbers l.fn.y.numbers) (map (reach l.sets) l.parts);
+  certain : l.certain + how_many (λ (x : Enclosure). compare_intervals same_single x.interval l.fn.y.interval) (map (enclosure l.sets) (drop l.part-index l.parts)) ≡ how_many (λ (x : Enclosure). compare_intervals same_single x.interval l.fn.y.interval) (map (enclosure l.sets) l.parts);
+  possible : l.possible + how_many (λ (x : Enclosure). compare_intervals meets x.interval l.fn.y.interval) (map (enclosure l.sets) (drop l.part-index l.parts)) ≡ how_many (λ (x : Enclosure). compare_intervals meets x.interval l.fn.y.interval) (map (enclosure l.sets) l.parts);
 }
 
 abbrev pub invariant-all_on-loop-part : goal.invariant-all_on-loop-part
 invariant-all_on-loop-part l = record {
-  fit : truths (map (checked l.sets) (drop l.part-index l.parts)) ≡ true;
-  yes : (l.yes && all_yes (map (reach l.sets) (drop l.part-index l.parts))) ≡ all_yes (map (reach l.sets) l.parts);
-  no : (l.no || any_no (map (reach l.sets) (drop l.part-index l.parts))) ≡ any_no (map (reach l.sets) l.parts);
+  fit : are_truths (map (checked l.sets) (drop l.part-index l.parts)) ≡ true;
+  may_be_true : (l.may_be_true && all_may_be_true (map (enclosure l.sets) (drop l.part-index l.parts))) ≡ all_may_be_true (map (enclosure l.sets) l.parts);
+  may_be_false : (l.may_be_false || any_may_be_false (map (enclosure l.sets) (drop l.part-index l.parts))) ≡ any_may_be_false (map (enclosure l.sets) l.parts);
 }
 
 abbrev pub invariant-any_on-loop-part : goal.invariant-any_on-loop-part
 invariant-any_on-loop-part l = record {
-  fit : truths (map (checked l.sets) (drop l.part-index l.parts)) ≡ true;
-  yes : (l.yes || any_yes (map (reach l.sets) (drop l.part-index l.parts))) ≡ any_yes (map (reach l.sets) l.parts);
-  no : (l.no && all_no (map (reach l.sets) (drop l.part-index l.parts))) ≡ all_no (map (reach l.sets) l.parts);
+  fit : are_truths (map (checked l.sets) (drop l.part-index l.parts)) ≡ true;
+  may_be_true : (l.may_be_true || any_may_be_true (map (enclosure l.sets) (drop l.part-index l.parts))) ≡ any_may_be_true (map (enclosure l.sets) l.parts);
+  may_be_false : (l.may_be_false && all_may_be_false (map (enclosure l.sets) (drop l.part-index l.parts))) ≡ all_may_be_false (map (enclosure l.sets) l.parts);
 }
 
 abbrev pub invariant-first_reaches-loop-place : goal.invariant-first_reaches-loop-place
 invariant-first_reaches-loop-place l = record {
-  fit : numbers (map (checked l.sets) (drop l.place l.parts)) ≡ true;
+  fit : are_numbers (map (checked l.sets) (drop l.place l.parts)) ≡ true;
   size : length l.kept ≡ 64;
-  kept : (k : ℕ) → k < l.place → get_or l.kept k (numeric None false) ≡ numbers_of l.sets (part l.parts k);
+  kept : (k : ℕ) → k < l.place → get_or l.kept k (numeric_enclosure None false) ≡ numbers_of l.sets (part l.parts k);
 }
 
 abbrev pub invariant-all_have_room-loop-place : goal.invariant-all_have_room-loop-place
 invariant-all_have_room-loop-place l = record {
-  fit : numbers (map (checked l.sets) (drop l.place l.parts)) ≡ true;
-  rest : (all_some (map (reach l.sets) (drop l.place l.parts)) && list_all (λ (x : Reach). room_from (map (reach l.sets) l.parts) x.numbers) (map (reach l.sets) (drop l.place l.parts)))
-      ≡ (all_some (map (reach l.sets) l.parts) && list_all (λ (x : Reach). room_from (map (reach l.sets) l.parts) x.numbers) (map (reach l.sets) l.parts));
+  fit : are_numbers (map (checked l.sets) (drop l.place l.parts)) ≡ true;
+  rest : (all_some (map (enclosure l.sets) (drop l.place l.parts)) && list_all (λ (x : Enclosure). room_from (map (enclosure l.sets) l.parts) x.interval) (map (enclosure l.sets) (drop l.place l.parts)))
+      ≡ (all_some (map (enclosure l.sets) l.parts) && list_all (λ (x : Enclosure). room_from (map (enclosure l.sets) l.parts) x.interval) (map (enclosure l.sets) l.parts));
 }
 
 abbrev pub invariant-has_room_from-loop-place : goal.invariant-has_room_from-loop-place
 invariant-has_room_from-loop-place l = record {
-  fit : numbers (map (checked l.sets) (drop l.place l.parts)) ≡ true;
-  rest : list_all (λ (x : Reach). not (compare (λ s t. not (has_room s.lo t.hi (map (reach l.sets) l.parts))) (Some l.start) x.numbers)) (map (reach l.sets) (drop l.place l.parts))
-      ≡ room_from (map (reach l.sets) l.parts) (Some l.start);
+  fit : are_numbers (map (checked l.sets) (drop l.place l.parts)) ≡ true;
+  rest : list_all (λ (x : Enclosure). not (compare_intervals (λ s t. not (has_room s.lo t.hi (map (enclosure l.sets) l.parts))) (Some l.start) x.interval)) (map (enclosure l.sets) (drop l.place l.parts))
+      ≡ room_from (map (enclosure l.sets) l.parts) (Some l.start);
 }
 
 abbrev pub invariant-has_room_on-loop-place : goal.invariant-has_room_on-loop-place
 invariant-has_room_on-loop-place l = record {
-  fit : numbers (map (checked l.sets) (drop l.place l.parts)) ≡ true;
+  fit : are_numbers (map (checked l.sets) (drop l.place l.parts)) ≡ true;
   few : l.held ≤ l.place;
-  rest : l.held + held l.range.lo l.range.hi (map (reach l.sets) (drop l.place l.parts)) ≡ held l.range.lo l.range.hi (map (reach l.sets) l.parts);
+  rest : l.held + held l.range.lo l.range.hi (map (enclosure l.sets) (drop l.place l.parts)) ≡ held l.range.lo l.range.hi (map (enclosure l.sets) l.parts);
 }
 
 abbrev pub invariant-some_meet_on-loop-place : goal.invariant-some_meet_on-loop-place
 invariant-some_meet_on-loop-place l = record {
-  fit : numbers (map (checked l.sets) (drop l.place l.parts)) ≡ true;
-  rest : (any_undefined (map (reach l.sets) (drop l.place l.parts)) || some_meet (map (reach l.sets) (drop l.place l.parts))) ≡ (any_undefined (map (reach l.sets) l.parts) || some_meet (map (reach l.sets) l.parts));
+  fit : are_numbers (map (checked l.sets) (drop l.place l.parts)) ≡ true;
+  rest : (any_may_be_undefined (map (enclosure l.sets) (drop l.place l.parts)) || some_meet (map (enclosure l.sets) (drop l.place l.parts))) ≡ (any_may_be_undefined (map (enclosure l.sets) l.parts) || some_meet (map (enclosure l.sets) l.parts));
 }
 
 abbrev pub invariant-first_meets_on-loop-later : goal.invariant-first_meets_on-loop-later
 invariant-first_meets_on-loop-later l = record {
-  fit : numbers (map (checked l.sets) (drop l.later l.parts)) ≡ true;
-  rest : list_any (λ (x : Reach). compare meets l.x.0 x.numbers) (map (reach l.sets) (drop l.later l.parts)) ≡ first_meets (map (reach l.sets) (drop l.place l.parts));
+  fit : are_numbers (map (checked l.sets) (drop l.later l.parts)) ≡ true;
+  rest : list_any (λ (x : Enclosure). compare_intervals meets l.x.0 x.interval) (map (enclosure l.sets) (drop l.later l.parts)) ≡ first_meets (map (enclosure l.sets) (drop l.place l.parts));
 }
 
 abbrev pub invariant-some_row_on-loop-row : goal.invariant-some_row_on-loop-row
-invariant-some_row_on-loop-row l = list_any (may_be_row (map (reach l.sets) l.parts)) (drop l.row-index l.rows) ≡ list_any (may_be_row (map (reach l.sets) l.parts)) l.rows
+invariant-some_row_on-loop-row l = list_any (may_be_row (map (enclosure l.sets) l.parts)) (drop l.row-index l.rows) ≡ list_any (may_be_row (map (enclosure l.sets) l.parts)) l.rows
 
 abbrev pub invariant-admit_row-loop-place : goal.invariant-admit_row-loop-place
 invariant-admit_row-loop-place l = record {
-  fit : numbers (map (checked l.sets) (drop l.place l.parts)) ≡ true;
-  rest : may_be_row (map (reach l.sets) (drop l.place l.parts)) (drop l.place l.row) ≡ may_be_row (map (reach l.sets) l.parts) l.row;
+  fit : are_numbers (map (checked l.sets) (drop l.place l.parts)) ≡ true;
+  rest : may_be_row (map (enclosure l.sets) (drop l.place l.parts)) (drop l.place l.row) ≡ may_be_row (map (enclosure l.sets) l.parts) l.row;
 }
 
 abbrev pub invariant-some_unsure_on-loop-place : goal.invariant-some_unsure_on-loop-place
 invariant-some_unsure_on-loop-place l = record {
-  fit : numbers (map (checked l.sets) (drop l.place l.parts)) ≡ true;
-  rest : (any_undefined (map (reach l.sets) (drop l.place l.parts)) || some_several (map (reach l.sets) (drop l.place l.parts))) ≡ (any_undefined (map (reach l.sets) l.parts) || some_several (map (reach l.sets) l.parts));
+  fit : are_numbers (map (checked l.sets) (drop l.place l.parts)) ≡ true;
+  rest : (any_may_be_undefined (map (enclosure l.sets) (drop l.place l.parts)) || some_several (map (enclosure l.sets) (drop l.place l.parts))) ≡ (any_may_be_undefined (map (enclosure l.sets) l.parts) || some_several (map (enclosure l.sets) l.parts));
 }

@@ -8,4 +8,4 @@ value_at-requires c =
     let y : SFits w64 c.from-2.result = search rules in
     let b : SFits w64 c.from-3.result = search rules in
     rw (to_z-of_z w64 c.from.result x, to_z-of_z w64 c.from-2.result y, to_z-of_z w64 c.from-3.result b, c.from.ensures, c.from-2.ensures, c.from-3.ensures)
-    (sym (rw (c.single.ensures, c.single-2.ensures, c.single-3.ensures) at c.is_fit.ensures) ∙ c.if-is_fit.true)
+    (sym (rw (c.single.ensures, c.single-2.ensures, c.single-3.ensures) at c.is_well_formed.ensures) ∙ c.if-is_well_formed.true)

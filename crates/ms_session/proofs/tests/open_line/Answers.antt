@@ -9,4 +9,4 @@ upto high = record { lo = pos 1; hi = high }
 
 pub returns-clause-admits : goal.returns-clause-admits
 unfolding upto
-returns-clause-admits c = opened_admits c.keep_laws.ensures.fit c.args.high c.requires.low c.requires.high c.in_ok-from_iv.field-0 c.declared_order.result [] c.open.result (c.in_ok-from_iv.ensures ∙ ap (λ v. v ∷ []) (c.new.ensures ∙ ap upto (high_read c.args.high c.requires.low c.requires.high))) c.open.ensures.opening
+returns-clause-admits c = opened_admits c.hull_laws.ensures.well_formed c.args.high c.requires.low c.requires.high c.in_ok-from_iv.field-0 c.declared_order.result [] c.open.result (c.in_ok-from_iv.ensures ∙ ap (λ v. v ∷ []) (c.new.ensures ∙ ap upto (high_read c.args.high c.requires.low c.requires.high))) c.open.ensures.opening

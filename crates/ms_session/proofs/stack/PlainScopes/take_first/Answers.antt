@@ -1,6 +1,6 @@
 use Rattle.std.proofs.Common.{sym, subst, refl}
 use Rattle.std.specs.Prelude.{All, IfOk}
-use Rattle.ms_trees.specs.Fit.{IsTruth}
+use Rattle.ms_trees.specs.WellFormed.{IsTruth}
 use Rattle.ms_session.specs.Boxes.{spans_of}
 use Rattle.ms_session.specs.Scopes.{NodeGives}
 use Rattle.ms_session.specs.Plain.{box_of, Takes}
@@ -13,7 +13,7 @@ pub take-requires-clause-proper : goal.take-requires-clause-proper
 take-requires-clause-proper c = box_proper (box_of c.self.inside.declared) (box_of c.in-Some.first) (last_box (box_of c.self.inside.declared) c.self.inside.current.boxes.items c.pop.new.self.items c.in-Some.first c.self.invariant.scope.boxes c.in-Some.ensures.items)
 
 pub take-requires-clause-fit : goal.take-requires-clause-fit
-take-requires-clause-fit c = subst (All (IsTruth (spans_of (box_of c.in-Some.first)))) (sym c.as_slice-constraints.ensures) (all_fit c.keep_laws.ensures.fit (box_of c.self.inside.declared) (box_of c.in-Some.first) c.self.invariant.declared (last_box (box_of c.self.inside.declared) c.self.inside.current.boxes.items c.pop.new.self.items c.in-Some.first c.self.invariant.scope.boxes c.in-Some.ensures.items) c.self.inside.current.constraints c.self.invariant.scope.fit)
+take-requires-clause-fit c = subst (All (IsTruth (spans_of (box_of c.in-Some.first)))) (sym c.as_slice-constraints.ensures) (all_fit c.hull_laws.ensures.well_formed (box_of c.self.inside.declared) (box_of c.in-Some.first) c.self.invariant.declared (last_box (box_of c.self.inside.declared) c.self.inside.current.boxes.items c.pop.new.self.items c.in-Some.first c.self.invariant.scope.boxes c.in-Some.ensures.items) c.self.inside.current.constraints c.self.invariant.scope.fit)
 
 -- the scope, the scope without its first box, and what was made of the box
 taking : (c : goal.After-put) → Taking (box_of c.self.inside.declared) c.self.inside.branching c.self.inside.current (record (c.self.inside.current) { boxes = c.pop.new.self }) c.in-Some.first c.in_ok-taken.taken

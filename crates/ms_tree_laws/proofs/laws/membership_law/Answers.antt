@@ -1,8 +1,0 @@
-use Rattle.ms_tree_laws.proofs.Outside.{sets_meet, sets_hold}
-use Rattle.ms_tree_laws.proofs.laws.membership_law.Goals as goal
-
-pub returns-clause-shared : goal.returns-clause-shared
-returns-clause-shared c = sets_meet
-
-pub returns-clause-outside : goal.returns-clause-outside
-returns-clause-outside c = sets_hold
