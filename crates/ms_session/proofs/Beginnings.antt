@@ -8,12 +8,10 @@ use Rattle.std.proofs.lemmas.List.{take-append-drop, take_all, take_more}
 use Rattle.std.proofs.lemmas.List.Sums.{sum_by_more, sum_by-append}
 use Rattle.ms_num.specs.Span.{Span}
 use Rattle.ms_num.specs.Ranges.{IsRanges, is_member}
-use Rattle.ms_session.specs.Sets.{Set, set_of}
-use Rattle.ms_session.specs.Boxes.{Assignment, Box, Each, set_at}
-use Rattle.ms_session.specs.Valid.{IsDeclared}
-use Rattle.ms_session.specs.Plain.{box_of}
+use Rattle.ms_num.specs.Sets.{Set, set_of}
+use Rattle.ms_boxes.specs.Boxes.{Assignment, Box, Each, set_at, IsDeclared, box_of}
 use Rattle.ms_session.specs.Stored.{IsVoid}
-use Rattle.ms_session.proofs.RangeSets.{ranges_is_set}
+use Rattle.ms_num.proofs.SharedSets.{ranges_is_set}
 use Rattle.ms_session.proofs.RangeBoxes.{box_more, box_within, set_read}
 
 each_last : {X : Type 0} (P : X → Type 0) (xs : List X) (x : X) → Each P xs → P x → Each P (xs ++ x ∷ [])
@@ -28,7 +26,7 @@ pub each_all : (P : Set → Type 0) (sets : List (List Span)) (i : ℕ) → leng
 each_all P sets i l h = subst (λ q. Each P (box_of q)) (take_all i sets l) h
 
 pub ranges_declared : (ss : List Span) → IsRanges ss → IsDeclared (set_of ss)
-ranges_declared [] r = inr (λ z. refl)
+ranges_declared [] r = inr refl
 ranges_declared (s ∷ ss) r = inl (ranges_is_set (s ∷ ss) r (λ e. absurd (cc)))
 
 pub not_empty : (ss : List Span) → false ≡ eqb (length ss) 0 → ss ≢ []

@@ -1,12 +1,13 @@
 -- What `next` leaves, by its nodes.
-use Rattle.std.proofs.Common.{◌≡◌, ◌≢◌, ◌⊎◌, inl, inr, ℕ, ◌+◌, zero, suc, refl, ap, ◌∙◌, subst, arith, List, [], ◌∷◌, ◌++◌, Some}
+use Rattle.std.proofs.Common.{◌≡◌, ◌≢◌, ◌⊎◌, inl, inr, ℕ, ◌+◌, zero, suc, refl, ap, ◌∙◌, subst, arith, List, [], ◌∷◌, ◌++◌, length, map, Some}
+use Rattle.std.proofs.Math.ListN.{length-map}
 use Rattle.ms_session.specs.declared.budget.Frame.{Frame}
 use Rattle.ms_session.specs.declared.session.Step.{Step}
 use Rattle.ms_session.specs.declared.session.Step.TheVariants.{Found, NoneLeft, Spent}
-use Rattle.ms_session.specs.Frames.{spend_one, spend_many}
-use Rattle.ms_session.specs.Boxes.{IsGiven, InSome, Assignment, Box}
+use Rattle.ms_session.specs.Frames.{spend_one, spend_many, spent_frame, number_in}
+use Rattle.ms_boxes.specs.Boxes.{IsGiven, InSome, Assignment, Box}
 use Rattle.ms_session.specs.Scopes.{Scope, last_of, after_node, none_left, stops, gives, goes_on}
-use Rattle.ms_session.specs.Laws.{LeavesBy, NextLeaves, NextHasItsEffect, ClosedMeansAllGiven}
+use Rattle.ms_session.specs.Laws.{LeavesBy, NextLeaves, NextHasItsEffect, ClosedMeansAllGiven, SpendingKeepsFrames}
 
 last_added : (ps : List Assignment) (p : Assignment) → last_of (ps ++ p ∷ []) ≡ Some p
 last_added [] p = refl
@@ -70,3 +71,16 @@ closed_means_all_given sets br sc v c p i m = none (v.covers p i m)
     none : IsGiven (sc.given) p ⊎ InSome p (sc.frontier) → IsGiven (sc.given) p
     none (inl g) = g
     none (inr h) = absurd (subst (InSome p) (v.closed c) h)
+
+spent_length : (fr : List Frame) → length (spend_one fr) ≡ length fr
+spent_length fr = length-map fr spent_frame
+
+spent_numbers : (fr : List Frame) → map number_in (spend_one fr) ≡ map number_in fr
+spent_numbers [] = refl
+spent_numbers (f ∷ fr) = ap (λ ns. f.number ∷ ns) (spent_numbers fr)
+
+pub spending_keeps_frames : SpendingKeepsFrames
+spending_keeps_frames zero fr = record { as_many = refl; numbers = refl }
+spending_keeps_frames (suc n) fr =
+    let rest = spending_keeps_frames n fr in
+    record { as_many = spent_length (spend_many n fr) ∙ rest.as_many; numbers = spent_numbers (spend_many n fr) ∙ rest.numbers }

@@ -1,24 +1,29 @@
 -- What holds of `next`, by its nodes.
 use Rattle.std.proofs.Common.{◌≡◌, ◌≢◌, ◌⊎◌, inl, inr, ℕ, ◌+◌, ◌≤◌, zero, suc, refl, sym, ap, ◌∙◌, subst, arith, rules, List, [], ◌∷◌, length, Option, Some, None}
-use Rattle.std.specs.Prelude.{if◌then◌else◌, ◌==◌, slice_get, option_map}
+use Rattle.std.proofs.lemmas.Bool.Decides.{nat_tests}
+use Rattle.std.specs.Prelude.{◌<◌, Bool, true, false, if◌then◌else◌, ◌==◌, slice_get, option_map}
 use Rattle.ms_trees.specs.declared.branching.Branching.{Branching}
 use Rattle.ms_session.specs.declared.budget.Frame.{Frame}
 use Rattle.ms_session.specs.declared.session.Step.{Step}
 use Rattle.ms_session.specs.declared.session.Step.TheVariants.{Found, NoneLeft, Spent}
 use Rattle.ms_session.specs.Frames.{empty_from, empty_frame, spend_one, spent_frame}
-use Rattle.ms_session.specs.Boxes.{Each, EachPair, IsGiven, InSome, Assignment, Box, InBox, IsBox, frontier_nodes}
-use Rattle.ms_session.specs.Branchings.{IsOrdered, compared, Before}
-use Rattle.ms_session.specs.Scopes.{Scope, Meets, Node, Next, answers, after_node, none_left, stops, gives, goes_on}
-use Rattle.ms_session.specs.Valid.{IsValid, AllBefore}
-use Rattle.ms_session.specs.Laws.{NodesKeepValid, NextKeepsValid, FewNodes, HasEnough, LargeFrameNeverCuts, EnoughStaysEnough, IsNewSolution, BySolutions, NextIsBySolutions}
-use Rattle.ms_session.proofs.Cutting.{box_some}
-use Rattle.ms_session.proofs.Validity.{node_valid, box_in_sets, box_length}
+use Rattle.ms_boxes.specs.Boxes.{Each, EachPair, IsGiven, InSome, Assignment, Box, InBox, IsBox, frontier_nodes}
+use Rattle.ms_boxes.specs.Branchings.{IsOrdered, comparison_order, Before}
+use Rattle.ms_session.specs.Scopes.{Scope, Next, after_node, none_left, stops, gives, goes_on}
+use Rattle.ms_boxes.specs.Trees.{Meets, Node}
+use Rattle.ms_boxes.specs.Nodes.{answers}
+use Rattle.ms_session.specs.Valid.{IsValid}
+use Rattle.ms_boxes.specs.Laws.{AllBefore}
+use Rattle.ms_session.specs.Laws.{NodesKeepValid, NextKeepsValid, FewNodes, HasEnough, EnoughIsLeft, EnoughIsNeverSpent, LargeFrameNeverCuts, EnoughStaysEnough, IsNewSolution, BySolutions, NextIsBySolutions}
+use Rattle.ms_boxes.proofs.SharedCutting.{box_some}
+use Rattle.ms_session.proofs.Validity.{node_valid}
+use Rattle.ms_boxes.proofs.SharedParts.{box_in_sets, box_length}
 
 pub nodes_keep_valid : NodesKeepValid
 nodes_keep_valid sets br sc answer fs v n = node_valid sets br (sc.cons) (sc.given) (sc.frontier) (sc.spent) (sc.closed) answer fs v n
 
 pub next_keeps_valid : NextKeepsValid
-next_keeps_valid sets br sc sc' fr fr' step v (none_left e) = record { fit = v.fit; boxes = v.boxes; apart = v.apart; new = v.new; covers = v.covers; bounded = v.bounded; closed = λ _. e; given = v.given; in_order = v.in_order }
+next_keeps_valid sets br sc sc' fr fr' step v (none_left e) = record { fit = v.fit; boxes = v.boxes; apart = v.apart; new = v.new; covers = v.covers; bounded = v.bounded; once = v.once; closed = λ _. e; given = v.given; in_order = v.in_order }
 next_keeps_valid sets br sc sc' fr fr' step v (stops e k) = v
 next_keeps_valid sets br sc sc' fr fr' step v (gives {p = p} {fs = fs} e n) = nodes_keep_valid sets br sc (Some p) fs v n
 next_keeps_valid sets br sc sc' fr fr' step v (goes_on {fs = fs} e n h) = next_keeps_valid sets br (after_node sc fs) sc' (spend_one fr) fr' step (nodes_keep_valid sets br sc None fs v n) h
@@ -99,6 +104,47 @@ never_cut sets br sc sc' fr fr' step k f is v (stops {b = b} {rest = rest} h _) 
 never_cut sets br sc sc' fr fr' step k f is v (gives h n) at e = absurd cc
 never_cut sets br sc sc' fr fr' step k f is v (goes_on {fs = fs} _ n h) at e = never_cut sets br (after_node sc fs) sc' (spend_one fr) fr' step k (spent_frame f) is (nodes_keep_valid sets br sc None fs v n) h (spent_at fr k f at) (enough_after sets sc fs f e)
 
+pub enough_is_left : EnoughIsLeft
+enough_is_left sets br sc f v some e = by_frontier (sc.frontier) refl
+  where
+    by_frontier : (fs : List Box) → sc.frontier ≡ fs → 0 < f.left
+    by_frontier [] h = absurd (some h)
+    by_frontier (b ∷ rest) h =
+        let s = frontier_some sets (sc.frontier) b rest h v.boxes in
+        let t = v.bounded in
+        omega (arith, s, t, e)
+
+none_is_empty : (k : ℕ) (fr : List Frame) → Each (λ f. 0 < f.left) fr → empty_from k fr ≡ None
+none_is_empty k [] h = refl
+none_is_empty k (f ∷ fr) h = by_test (f.left == 0) refl (none_is_empty (suc k) fr h.1)
+  where
+    by_test : (t : Bool) → (f.left == 0) ≡ t → empty_from (suc k) fr ≡ None → (if t then Some k else empty_from (suc k) fr) ≡ None
+    by_test true e rest = absurd (let z : f.left ≡ 0 = grind (arith, nat_tests) in let l = h.0 in omega (arith, z, l))
+    by_test false e rest = rest
+
+each_left : (sets : Box) (br : Branching) (sc : Scope) (fr : List Frame) → IsValid sets br sc → sc.frontier ≢ [] → Each (HasEnough sets sc) fr → Each (λ f. 0 < f.left) fr
+each_left sets br sc [] v some h = tt
+each_left sets br sc (f ∷ fr) v some h = (enough_is_left sets br sc f v some h.0, each_left sets br sc fr v some h.1)
+
+each_enough : (sets : Box) (sc : Scope) (fs : List Box) (fr : List Frame) → Each (HasEnough sets sc) fr → Each (HasEnough sets (after_node sc fs)) (spend_one fr)
+each_enough sets sc fs [] h = tt
+each_enough sets sc fs (f ∷ fr) h = (enough_after sets sc fs f h.0, each_enough sets sc fs fr h.1)
+
+never_spent : (sets : Box) (br : Branching) (sc sc' : Scope) (fr fr' : List Frame) (step : Step) → step ≡ Spent → IsValid sets br sc → Next sets br sc fr step sc' fr' → Each (HasEnough sets sc) fr → ⊥
+never_spent sets br sc sc' fr fr' step is v (none_left h) e = absurd cc
+never_spent sets br sc sc' fr fr' step is v (stops {b = b} {rest = rest} {k = k} h g) e = none_not_some k (sym (none_is_empty 0 fr (each_left sets br sc fr v (λ n. nothing_in b rest (sym h ∙ n)) e)) ∙ g)
+  where
+    none_not_some : (k : ℕ) → None ≡ Some k → ⊥
+    none_not_some k e = absurd (cc)
+
+    nothing_in : (b : Box) (rest : List Box) → b ∷ rest ≡ [] → ⊥
+    nothing_in b rest e = absurd (cc)
+never_spent sets br sc sc' fr fr' step is v (gives h n) e = absurd cc
+never_spent sets br sc sc' fr fr' step is v (goes_on {fs = fs} _ n h) e = never_spent sets br (after_node sc fs) sc' (spend_one fr) fr' step is (nodes_keep_valid sets br sc None fs v n) h (each_enough sets sc fs fr e)
+
+pub enough_is_never_spent : EnoughIsNeverSpent
+enough_is_never_spent sets br sc sc' fr fr' v n e = never_spent sets br sc sc' fr fr' Spent refl v n e
+
 pub large_frame_never_cuts : LargeFrameNeverCuts
 large_frame_never_cuts sets br sc sc' fr fr' k f v n = never_cut sets br sc sc' fr fr' Spent k f refl v n
 
@@ -108,9 +154,9 @@ enough_stays_enough sets br sc sc' fr fr' step k f f' (stops h _) at now e = let
 enough_stays_enough sets br sc sc' fr fr' step k f f' (gives {p = p} {fs = fs} _ n) at now e = let s = same_frame (spend_one fr) k (spent_frame f) f' (spent_at fr k f at) now in subst (HasEnough sets (after_node sc fs)) s (enough_after sets sc fs f e)
 enough_stays_enough sets br sc sc' fr fr' step k f f' (goes_on {fs = fs} _ n h) at now e = enough_stays_enough sets br (after_node sc fs) sc' (spend_one fr) fr' step k (spent_frame f) f' h (spent_at fr k f at) now (enough_after sets sc fs f e)
 
-before_some : (br : Branching) (sets b : Box) (bs : List Box) (p q : Assignment) → IsBox sets b → Each (AllBefore br b) bs → InBox p b → InSome q bs → Before (compared br (length sets)) p q
+before_some : (br : Branching) (sets b : Box) (bs : List Box) (p q : Assignment) → IsBox sets b → Each (AllBefore br b) bs → InBox p b → InSome q bs → Before (comparison_order br (length sets)) p q
 before_some br sets b [] p q i a hp hq = absurd hq
-before_some br sets b (c ∷ bs) p q i a hp (inl h) = subst (λ m. Before (compared br m) p q) (box_length sets b i) (a.0 p q hp h)
+before_some br sets b (c ∷ bs) p q i a hp (inl h) = subst (λ m. Before (comparison_order br m) p q) (box_length sets b i) (a.0 p q hp h)
 before_some br sets b (c ∷ bs) p q i a hp (inr h) = before_some br sets b bs p q i a.1 hp h
 
 found : (sets : Box) (br : Branching) (sc : Scope) (frontier : List Box) (p : Assignment) (fs : List Box) → sc.frontier ≡ frontier → IsValid sets br sc → Node sets br (sc.cons) frontier (Some p) fs → IsNewSolution sets br sc p
@@ -124,7 +170,7 @@ found sets br sc frontier p fs e v (answers {b} {rest} only) = record {
     boxes : Each (IsBox sets) (b ∷ rest)
     boxes = subst (Each (IsBox sets)) e v.boxes
 
-    least : IsOrdered br → (q : Assignment) → Meets (sc.cons) q → (IsGiven (sc.given) q → ⊥) → IsGiven (sc.given) q ⊎ (InBox q b ⊎ InSome q rest) → (q ≡ p) ⊎ Before (compared br (length sets)) p q
+    least : IsOrdered br → (q : Assignment) → Meets (sc.cons) q → (IsGiven (sc.given) q → ⊥) → IsGiven (sc.given) q ⊎ (InBox q b ⊎ InSome q rest) → (q ≡ p) ⊎ Before (comparison_order br (length sets)) p q
     least o q m never (inl g) = absurd (never g)
     least o q m never (inr (inl h)) = inl (only.alone q h m)
     least o q m never (inr (inr h)) = inr (before_some br sets b rest p q boxes.0 (subst (EachPair (AllBefore br)) e (v.in_order o)).0 only.inside h)

@@ -6,19 +6,19 @@ use Rattle.std.proofs.lemmas.List.{get_or-map, map-set, map-append, take_more}
 use Rattle.std.proofs.Math.ListN.{length-map}
 use Rattle.ms_num.specs.Span.{Span}
 use Rattle.ms_trees.specs.declared.branching.ValueChoice.{ValueChoice}
-use Rattle.ms_session.specs.Sets.{Set, IsSet, IsCut, set_of, nothing, lowest}
-use Rattle.ms_session.specs.Boxes.{Box, set_at, span_of, spans_of}
-use Rattle.ms_session.specs.Branchings.{is_open, is_tried, is_left, pick}
+use Rattle.ms_num.specs.Sets.{Set, IsSet, IsCut, set_of, empty_set, lo_of, span_of, spans_of}
+use Rattle.ms_boxes.specs.Boxes.{Box, set_at, box_of, least_point, IsProper}
+use Rattle.ms_boxes.specs.Branchings.{is_unfixed, is_tried, is_left, pick}
 use Rattle.ms_trees.specs.declared.tree.Ground.{Ground}
 use Rattle.ms_trees.specs.declared.branching.Branching.{Branching}
-use Rattle.ms_session.specs.Scopes.{NoneRefuted}
-use Rattle.ms_session.specs.Plain.{box_of, lows, IsProper, Halves, Cuts}
-use Rattle.ms_session.proofs.Sizes.{open_ends}
-use Rattle.ms_session.proofs.Singles.{open_size}
-use Rattle.ms_session.proofs.Picking.{picked_is_open, open_within}
+use Rattle.ms_boxes.specs.Trees.{NoneRefuted}
+use Rattle.ms_session.specs.Plain.{Halves, Cuts}
+use Rattle.ms_num.proofs.SharedSizes.{open_ends}
+use Rattle.ms_boxes.proofs.SharedSingles.{open_size}
+use Rattle.ms_boxes.proofs.SharedPicking.{picked_is_open, open_within}
 
 pub set_read : (sets : List (List Span)) (v : ℕ) (r : List Span) → v < length sets → r ≡ get_or sets v r → set_of r ≡ set_at (box_of sets) v
-set_read sets v r l e = ap set_of e ∙ sym (get_or-map set_of sets v r nothing l)
+set_read sets v r l e = ap set_of e ∙ sym (get_or-map set_of sets v r empty_set l)
 
 pub proper_set : (b : Box) (v : ℕ) → v < length b → IsProper b → IsSet (set_at b v)
 proper_set [] v l i = absurd (omega (arith, l))
@@ -37,7 +37,7 @@ some_ranges ss i e = false≢true (subst (λ q. (set_of q).has (set_of q).lo ≡
 pub read_some : (sets : List (List Span)) (v : ℕ) (r : List Span) → v < length sets → r ≡ get_or sets v r → IsProper (box_of sets) → r ≢ []
 read_some sets v r l e i = some_ranges r (read_proper sets v r l e i)
 
-pub read_open : (sets : List (List Span)) (v : ℕ) (r : List Span) → v < length sets → r ≡ get_or sets v r → IsProper (box_of sets) → is_open (box_of sets) v ≡ true → (set_of r).lo <ℤ (set_of r).hi
+pub read_open : (sets : List (List Span)) (v : ℕ) (r : List Span) → v < length sets → r ≡ get_or sets v r → IsProper (box_of sets) → is_unfixed (box_of sets) v ≡ true → (set_of r).lo <ℤ (set_of r).hi
 read_open sets v r l e i o = subst (λ s. s.lo <ℤ s.hi) (sym (set_read sets v r l e)) (open_ends (set_at (box_of sets) v) (proper_set (box_of sets) v (box_within sets v l) i) o)
 
 -- both parts of a cut, each with the other sets as they were
@@ -55,12 +55,12 @@ halves_from sets c d v choice q r t u l eq er tried left ec ed = record {
 pub box_more : (sets : List (List Span)) (i : ℕ) (r : List Span) → i < length sets → r ≡ get_or sets i r → box_of (take (i + 1) sets) ≡ box_of (take i sets) ++ set_of r ∷ []
 box_more sets i r l e = ap box_of (take_more sets i r l ∙ ap (λ x. take i sets ++ x ∷ []) (sym e)) ∙ map-append set_of (take i sets) (r ∷ [])
 
-lows_last : (b : Box) (s : Set) → lows (b ++ s ∷ []) ≡ lows b ++ s.lo ∷ []
+lows_last : (b : Box) (s : Set) → least_point (b ++ s ∷ []) ≡ least_point b ++ s.lo ∷ []
 lows_last [] s = refl
 lows_last (t ∷ b) s = ap (λ p. t.lo ∷ p) (lows_last b s)
 
-pub lows_more : (sets : List (List Span)) (i : ℕ) (r : List Span) → i < length sets → r ≡ get_or sets i r → lows (box_of (take (i + 1) sets)) ≡ lows (box_of (take i sets)) ++ lowest r ∷ []
-lows_more sets i r l e = ap lows (box_more sets i r l e) ∙ lows_last (box_of (take i sets)) (set_of r)
+pub lows_more : (sets : List (List Span)) (i : ℕ) (r : List Span) → i < length sets → r ≡ get_or sets i r → least_point (box_of (take (i + 1) sets)) ≡ least_point (box_of (take i sets)) ++ lo_of r ∷ []
+lows_more sets i r l e = ap least_point (box_more sets i r l e) ∙ lows_last (box_of (take i sets)) (set_of r)
 
 pub spans_more : (sets : List (List Span)) (i : ℕ) (r : List Span) → i < length sets → r ≡ get_or sets i r → spans_of (box_of (take (i + 1) sets)) ≡ spans_of (box_of (take i sets)) ++ span_of (set_of r) ∷ []
 spans_more sets i r l e = ap spans_of (box_more sets i r l e) ∙ map-append span_of (box_of (take i sets)) (set_of r ∷ [])

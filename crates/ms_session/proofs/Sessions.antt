@@ -8,19 +8,21 @@ use Rattle.ms_trees.specs.declared.tree.Ground.{Ground}
 use Rattle.ms_trees.specs.declared.branching.Branching.{Branching}
 use Rattle.ms_session.specs.declared.budget.Frame.{Frame}
 use Rattle.ms_session.specs.declared.session.Step.{Step}
-use Rattle.ms_session.specs.Sets.{Set, IsSet, Among, set_size}
-use Rattle.ms_session.specs.Boxes.{Each, EachPair, IsGiven, InSome, Assignment, Box, InBox, IsBox, Disjoint, box_size, frontier_nodes}
+use Rattle.ms_num.specs.Sets.{Set, IsSet, Among, set_size}
+use Rattle.ms_boxes.specs.Boxes.{Each, EachPair, IsGiven, InSome, Assignment, Box, InBox, IsBox, Disjoint, box_size, frontier_nodes, IsDeclared}
 use Rattle.ms_session.specs.Frames.{spend_one}
-use Rattle.ms_session.specs.Scopes.{Scope, Meets, Holds, IsConstraint, Opens, IsFresh, Next, none_left, stops, gives, goes_on, after_node}
-use Rattle.ms_session.specs.Valid.{IsValid, IsValidSession, IsDeclared, AllBefore, Nested}
-use Rattle.ms_session.specs.Laws.{OpeningIsValid, EnteringKeepsValid, LeavingKeepsValid, PostingKeepsValid, SteppingKeepsValid}
-use Rattle.ms_session.proofs.Counts.{size_among}
-use Rattle.ms_session.proofs.Validity.{products}
+use Rattle.ms_session.specs.Scopes.{Scope, Opens, IsFresh, Next, none_left, stops, gives, goes_on, after_node}
+use Rattle.ms_boxes.specs.Trees.{Meets, Holds, IsConstraint}
+use Rattle.ms_session.specs.Valid.{AreDifferent, IsValid, IsValidSession, Nested}
+use Rattle.ms_boxes.specs.Laws.{AllBefore}
+use Rattle.ms_session.specs.Laws.{OpeningIsValid, BeginningIsValid, EnteringKeepsValid, LeavingKeepsValid, PostingKeepsValid, SteppingKeepsValid}
+use Rattle.ms_num.proofs.SharedCounts.{size_among}
+use Rattle.ms_boxes.proofs.SharedParts.{products}
 use Rattle.ms_session.proofs.Nexts.{next_keeps_valid}
 
 declared_size : (s d : Set) → IsSet s → IsDeclared d → Among s d → set_size s ≤ set_size d
 declared_size s d i (inl j) a = size_among d s j i a
-declared_size s d i (inr never) a = absurd (false≢true (sym (never s.lo) ∙ a s.lo i.low))
+declared_size s d i (inr e) a = absurd (false≢true (sym (ap (λ q. q.has s.lo) e) ∙ a s.lo i.low))
 
 -- a box of the declared sets has at most their assignments
 sets_size : (sets b : Box) → Each IsDeclared sets → IsBox sets b → box_size b ≤ box_size sets
@@ -49,6 +51,7 @@ fresh_valid sets br cons sc e fits f = record {
   apart = o.apart;
   new = λ p g s. subst (λ gs. IsGiven gs p) f.given g;
   covers = λ p i m. inr (o.covers p i (subst (λ c. Meets c p) f.cons m));
+  once = subst (EachPair AreDifferent) (sym f.given) tt;
   bounded = let h = o.bounded in let z = f.spent in omega (arith, h, z);
   closed = λ c. absurd (false≢true (sym f.closed ∙ c));
   given = λ p g. absurd (subst (λ gs. IsGiven gs p) f.given g);
@@ -65,6 +68,15 @@ opening_is_valid s e fits f alone = record {
   nested = subst (Nested (s.scope)) (sym alone) tt;
   depth = let h = ap length alone in omega (arith, h);
 }
+
+pub beginning_is_valid : BeginningIsValid
+beginning_is_valid declared br cons s d fits o = opening_is_valid s (subst (Each IsDeclared) (sym o.sets) d) (subst (λ q. All (IsConstraint q) s.scope.cons) (sym o.sets) (subst (All (IsConstraint declared)) (sym o.scope.cons) fits)) (record {
+  cons = refl;
+  given = o.scope.given;
+  spent = o.scope.spent;
+  closed = o.scope.closed;
+  opens = subst (λ q. Opens q s.scope.cons s.scope.frontier) (sym o.sets) (subst (λ q. Opens declared q s.scope.frontier) (sym o.scope.cons) o.scope.opens);
+}) o.parents
 
 pub entering_keeps_valid : EnteringKeepsValid
 entering_keeps_valid old new v l e = subst IsValidSession (sym e.is) (record {
@@ -111,6 +123,7 @@ posting_keeps_valid s g v fit = record {
       new = a.new;
       covers = λ p i m. a.covers p i (fewer_meet p (s.scope.cons) g m);
       bounded = a.bounded;
+      once = a.once;
       closed = a.closed;
       given = a.given;
       in_order = a.in_order;

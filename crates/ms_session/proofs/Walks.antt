@@ -9,10 +9,11 @@ use Rattle.ms_trees.specs.declared.tree.Enclosure.{Enclosure}
 use Rattle.ms_trees.specs.Enclosure.{hull_at}
 use Rattle.ms_trees.specs.WellFormed.{IsTruth}
 use Rattle.ms_trees.specs.Laws.{Refuted, RefutedMeansUnmet}
-use Rattle.ms_session.specs.Boxes.{Box, spans_of}
-use Rattle.ms_session.specs.Scopes.{HoldsNone, NoneRefuted}
-use Rattle.ms_session.specs.Plain.{box_of, IsProper, MayBeTrue}
-use Rattle.ms_session.proofs.Fitting.{refuted_none}
+use Rattle.ms_boxes.specs.Boxes.{Box, box_of, IsProper}
+use Rattle.ms_num.specs.Sets.{spans_of}
+use Rattle.ms_boxes.specs.Trees.{HoldsNone, NoneRefuted}
+use Rattle.ms_session.specs.Plain.{MayBeTrue}
+use Rattle.ms_boxes.proofs.SharedFitting.{refuted_none}
 
 pub passed_more : {X : Type 0} (P : X → Type 0) (xs : List X) (i : ℕ) (x : X) → i < length xs → x ≡ get_or xs i x → All P (take i xs) → P x → All P (take (i + 1) xs)
 passed_more P xs i x l e h p = All-more P xs i x l h (subst P e p)

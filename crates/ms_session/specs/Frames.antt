@@ -36,7 +36,7 @@ empty_from k (f ∷ fs) = if f.left == 0 then Some k else empty_from (suc k) fs
 abbrev pub empty_frame : List Frame → Option ℕ
 empty_frame = empty_from 0
 
--- what is left of the outermost frame
+-- what is left of the outermost frame, which is one of nodes
 abbrev pub outer_left : List Frame → ℕ
 outer_left [] = 0
 outer_left (f ∷ fs) = f.left

@@ -1,10 +1,6 @@
 pub mod Frames
-pub mod Sets
-pub mod Boxes
-pub mod Branchings
-pub mod Scopes
-pub mod Plain
-pub mod Valid
 pub mod Laws
+pub mod Plain
+pub mod Scopes
 pub mod Stored
-pub mod Samples
+pub mod Valid

@@ -1,17 +1,14 @@
 -- Scopes: what one node does, `next` as nodes that follow each other, entering and leaving.
-use Rattle.std.specs.Prelude.{◌≡◌, ℕ, ◌+◌, ◌^◌, ◌<◌, ◌≤◌, Bool, true, false, List, [], ◌∷◌, ◌++◌, Option, Some, None, All, sum_by}
+use Rattle.std.specs.Prelude.{◌≡◌, ℕ, ◌+◌, ◌^◌, ◌<◌, Bool, true, false, List, [], ◌∷◌, ◌++◌, Option, Some, None, sum_by}
 use Rattle.ms_trees.specs.declared.tree.Ground.{Ground}
-use Rattle.ms_trees.specs.Value.{value}
-use Rattle.ms_trees.specs.Enclosure.{enclosure}
-use Rattle.ms_trees.specs.WellFormed.{IsTruth}
 use Rattle.ms_trees.specs.Size.{size_of}
 use Rattle.ms_trees.specs.declared.branching.Branching.{Branching}
 use Rattle.ms_session.specs.declared.budget.Frame.{Frame}
 use Rattle.ms_session.specs.declared.session.Step.{Step}
 use Rattle.ms_session.specs.declared.session.Step.TheVariants.{Found, NoneLeft, Spent}
+use Rattle.ms_boxes.specs.Trees.{Keeps, HoldsNone, Node}
 use Rattle.ms_session.specs.Frames.{empty_frame, spend_one, spend_many, outer_left}
-use Rattle.ms_session.specs.Boxes.{Assignment, Box, InBox, IsBox, Within, box_size, spans_of, declared_spans}
-use Rattle.ms_session.specs.Branchings.{Picks}
+use Rattle.ms_boxes.specs.Boxes.{Assignment, Box, IsBox}
 
 -- the constraints, the solutions given in their order, the boxes still to be searched, the nodes spent, and
 -- whether the search has come to its end
@@ -24,7 +21,7 @@ pub record Scope : Type 0 where
 
 -- what a session is: the declared sets and the branching, which no call changes, the current scope, the scopes
 -- below it, the nearest first, and whether memory was refused
-pub record Seen : Type 0 where
+pub record SessionState : Type 0 where
   pub sets : Box
   pub branching : Branching
   pub scope : Scope
@@ -41,82 +38,31 @@ last_of (p ∷ q ∷ ps) = last_of (q ∷ ps)
 abbrev pub live_nodes : List Ground → ℕ
 live_nodes cons = sum_by size_of cons
 
--- a constraint that may be posted: a Boolean tree that is fit for the declared sets
-abbrev pub IsConstraint : Box → Ground → Type 0
-IsConstraint sets g = IsTruth (declared_spans sets) g
-
--- the constraint is true on the assignment
-abbrev pub Holds : Assignment → Ground → Type 0
-Holds p g = (value p g).truth ≡ true
-
--- the assignment meets the constraints
-abbrev pub Meets : List Ground → Assignment → Type 0
-Meets cons p = All (Holds p) cons
-
--- every assignment of the first box that meets the constraints lies in the second
-abbrev pub Keeps : List Ground → Box → Box → Type 0
-Keeps cons b c = (p : Assignment) → InBox p b → Meets cons p → InBox p c
-
--- no assignment of the box meets the constraints
-abbrev pub HoldsNone : List Ground → Box → Type 0
-HoldsNone cons b = (p : Assignment) → InBox p b → Meets cons p → ⊥
-
--- interval reasoning admits that the constraint is true on the box
-abbrev pub MayHold : Box → Ground → Type 0
-MayHold b g = (enclosure (spans_of b) g).may_be_true ≡ true
-
--- no constraint is refuted on the box
-abbrev pub NoneRefuted : List Ground → Box → Type 0
-NoneRefuted cons b = All (MayHold b) cons
-
--- p is the one assignment of the box that meets the constraints
-pub record IsOnly (cons : List Ground) (b : Box) (p : Assignment) : Type 0 where
-  pub inside : InBox p b
-  pub meets : Meets cons p
-  pub alone : (q : Assignment) → InBox q b → Meets cons q → q ≡ p
-
--- the box b is narrowed to one of two assignments or more on which no constraint is refuted, and the branching
--- cuts that one into c and d
-pub record Splits (sets : Box) (br : Branching) (cons : List Ground) (b c d : Box) : Type 0 where
-  pub narrowed : Box
-  pub proper : IsBox sets narrowed
-  pub within : Within b narrowed
-  pub keeps : Keeps cons b narrowed
-  pub several : 2 ≤ box_size narrowed
-  pub none_refuted : NoneRefuted cons narrowed
-  pub picks : Picks br narrowed c d
-
--- One node takes the first box: it is dropped, answered or split. How far it is narrowed is free.
-pub data Node (sets : Box) (br : Branching) (cons : List Ground) : List Box → Option Assignment → List Box → Type 0 where
-  drops : {b : Box} {rest : List Box} → HoldsNone cons b → Node sets br cons (b ∷ rest) None rest
-  answers : {b : Box} {rest : List Box} {p : Assignment} → IsOnly cons b p → Node sets br cons (b ∷ rest) (Some p) rest
-  splits : {b c d : Box} {rest : List Box} → Splits sets br cons b c d → Node sets br cons (b ∷ rest) None (c ∷ d ∷ rest)
-
 -- a scope after a node that has not answered
 abbrev pub after_node : Scope → List Box → Scope
 after_node sc fs = record sc { frontier = fs; spent = sc.spent + 1 }
 
 -- a scope after a node
-abbrev pub noded : Scope → List Box → Option Assignment → Scope
-noded sc fs None = after_node sc fs
-noded sc fs (Some p) = record (after_node sc fs) { given = sc.given ++ p ∷ [] }
+abbrev pub scope_after : Scope → List Box → Option Assignment → Scope
+scope_after sc fs None = after_node sc fs
+scope_after sc fs (Some p) = record (after_node sc fs) { given = sc.given ++ p ∷ [] }
 
 -- another scope in place of the current one
-abbrev pub with_scope : Seen → Scope → Seen
+abbrev pub with_scope : SessionState → Scope → SessionState
 with_scope s sc = record s { scope = sc }
 
 -- one node in the current scope
-pub record NodeGives (old : Seen) (answer : Option Assignment) (now : Seen) : Type 0 where
+pub record NodeGives (old : SessionState) (answer : Option Assignment) (now : SessionState) : Type 0 where
   pub frontier : List Box
   pub node : Node (old.sets) (old.branching) (old.scope.cons) (old.scope.frontier) answer frontier
-  pub is : now ≡ with_scope old (noded (old.scope) frontier answer)
+  pub is : now ≡ with_scope old (scope_after (old.scope) frontier answer)
 
 -- Nodes follow each other until the first of three is found: an answer, an empty frontier, or a frame of which
 -- nothing is left while there is a box. Each node is taken from each frame.
 pub data Next (sets : Box) (br : Branching) : Scope → List Frame → Step → Scope → List Frame → Type 0 where
   none_left : {sc : Scope} {fr : List Frame} → sc.frontier ≡ [] → Next sets br sc fr NoneLeft (record sc { closed = true }) fr
   stops : {sc : Scope} {fr : List Frame} {b : Box} {rest : List Box} {k : ℕ} → sc.frontier ≡ b ∷ rest → empty_frame fr ≡ Some k → Next sets br sc fr Spent sc fr
-  gives : {sc : Scope} {fr : List Frame} {p : Assignment} {fs : List Box} → empty_frame fr ≡ None → Node sets br sc.cons sc.frontier (Some p) fs → Next sets br sc fr (Found p) (noded sc fs (Some p)) (spend_one fr)
+  gives : {sc : Scope} {fr : List Frame} {p : Assignment} {fs : List Box} → empty_frame fr ≡ None → Node sets br sc.cons sc.frontier (Some p) fs → Next sets br sc fr (Found p) (scope_after sc fs (Some p)) (spend_one fr)
   goes_on : {sc sc' : Scope} {fr fr' : List Frame} {a : Step} {fs : List Box} → empty_frame fr ≡ None → Node sets br sc.cons sc.frontier None fs → Next sets br (after_node sc fs) (spend_one fr) a sc' fr' → Next sets br sc fr a sc' fr'
 
 -- the nodes spent in the scope cannot leave 64 bits
@@ -138,7 +84,7 @@ pub record IsFresh (sets : Box) (constraints : List Ground) (sc : Scope) : Type 
   pub opens : Opens sets constraints sc.frontier
 
 -- a session with one fresh scope
-pub record IsOpening (declared : Box) (br : Branching) (constraints : List Ground) (s : Seen) : Type 0 where
+pub record IsOpening (declared : Box) (br : Branching) (constraints : List Ground) (s : SessionState) : Type 0 where
   pub sets : s.sets ≡ declared
   pub branching : s.branching ≡ br
   pub scope : IsFresh declared constraints s.scope
@@ -146,30 +92,30 @@ pub record IsOpening (declared : Box) (br : Branching) (constraints : List Groun
   pub failed : s.failed ≡ false
 
 -- a fresh scope stands above the current one, with its constraints
-pub record Enters (old new : Seen) : Type 0 where
+pub record Enters (old new : SessionState) : Type 0 where
   pub child : Scope
   pub fresh : IsFresh old.sets old.scope.cons child
   pub is : new ≡ record old { scope = child; parents = old.scope ∷ old.parents }
 
 -- the current scope is gone; the nearest below it is the current one, as it was
-pub record Leaves (old new : Seen) : Type 0 where
+pub record Leaves (old new : SessionState) : Type 0 where
   pub parent : Scope
   pub below : List Scope
   pub stood : old.parents ≡ parent ∷ below
   pub is : new ≡ record old { scope = parent; parents = below }
 
 -- one constraint joins the current scope, behind the others
-abbrev pub posted : Seen → Ground → Seen
-posted s g = with_scope s (record (s.scope) { cons = s.scope.cons ++ g ∷ [] })
+abbrev pub with_constraint : SessionState → Ground → SessionState
+with_constraint s g = with_scope s (record (s.scope) { cons = s.scope.cons ++ g ∷ [] })
 
 -- the current scope takes nodes until there is an answer
-pub record Steps (old : Seen) (before : List Frame) (step : Step) (new : Seen) (after : List Frame) : Type 0 where
+pub record NextGives (old : SessionState) (before : List Frame) (step : Step) (new : SessionState) (after : List Frame) : Type 0 where
   pub scope : Scope
   pub next : Next old.sets old.branching old.scope before step scope after
   pub is : new ≡ with_scope old scope
 
 -- after want of memory: failed, and all but the current scope as before
-pub record Breaks (old new : Seen) : Type 0 where
+pub record Breaks (old new : SessionState) : Type 0 where
   pub scope : Scope
   pub is : new ≡ record old { scope = scope; failed = true }
 

@@ -3,13 +3,12 @@ use Rattle.std.specs.Prelude.{◌≡◌, ℕ, ◌+◌, ◌≤◌, Bool, false, L
 use Rattle.ms_num.specs.Span.{Span}
 use Rattle.ms_trees.specs.declared.tree.Ground.{Ground}
 use Rattle.ms_trees.specs.declared.branching.Branching.{Branching}
-use Rattle.ms_session.specs.declared.taking.Taken.{Taken}
-use Rattle.ms_session.specs.declared.taking.Taken.TheVariants.{Dropped, Answered, Split}
-use Rattle.ms_session.specs.declared.scope.PlainScope.{PlainScope}
-use Rattle.ms_session.specs.Boxes.{Assignment, Box, Each, InBox, IsBox}
-use Rattle.ms_session.specs.Scopes.{Scope, Seen, IsConstraint, live_nodes, with_scope}
-use Rattle.ms_session.specs.Plain.{box_of, IsProper}
-use Rattle.ms_session.specs.Valid.{IsDeclared}
+use Rattle.ms_session.specs.declared.plain_node.BoxStep.{BoxStep}
+use Rattle.ms_session.specs.declared.plain_node.BoxStep.TheVariants.{Dropped, Answered, Split}
+use Rattle.ms_session.specs.declared.plain_scope.PlainScope.{PlainScope}
+use Rattle.ms_boxes.specs.Boxes.{Assignment, Box, Each, InBox, IsBox, box_of, IsProper, IsDeclared}
+use Rattle.ms_session.specs.Scopes.{Scope, SessionState, live_nodes, with_scope}
+use Rattle.ms_boxes.specs.Trees.{IsConstraint}
 
 -- the boxes of a frontier, where the first one stands last
 abbrev pub frontier_of : List (List (List Span)) → List Box
@@ -37,8 +36,8 @@ abbrev pub scope_of : StoredScope → Scope
 scope_of sc = record { cons = sc.constraints; given = sc.given; frontier = frontier_of sc.boxes; spent = sc.spent; closed = sc.closed }
 
 -- the session that is stored so
-abbrev pub seen_of : Stored → Seen
-seen_of s = record { sets = box_of s.sets; branching = s.branching; scope = scope_of s.scope; parents = map scope_of s.parents; failed = s.failed }
+abbrev pub state_of : Stored → SessionState
+state_of s = record { sets = box_of s.sets; branching = s.branching; scope = scope_of s.scope; parents = map scope_of s.parents; failed = s.failed }
 
 -- no assignment lies in the box
 abbrev pub IsVoid : Box → Type 0
@@ -60,23 +59,23 @@ pub record IsOpened (sets : List (List Span)) (constraints : List Ground) (live 
 
 -- ---- what a node leaves
 
-abbrev pub answer_of : Taken → Option Assignment
+abbrev pub answer_of : BoxStep → Option Assignment
 answer_of Dropped = None
 answer_of (Answered p) = Some p
 answer_of (Split c d) = None
 
-abbrev pub given_after : Taken → List Assignment → List Assignment
+abbrev pub given_after : BoxStep → List Assignment → List Assignment
 given_after Dropped given = given
 given_after (Answered p) given = given ++ p ∷ []
 given_after (Split c d) given = given
 
-abbrev pub boxes_after : Taken → List (List (List Span)) → List (List (List Span))
+abbrev pub boxes_after : BoxStep → List (List (List Span)) → List (List (List Span))
 boxes_after Dropped boxes = boxes
 boxes_after (Answered p) boxes = boxes
 boxes_after (Split c d) boxes = (boxes ++ d ∷ []) ++ c ∷ []
 
 -- what was made of a box is put in its place
-pub record Puts (old : PlainScope) (taken : Taken) (answer : Option Assignment) (new : PlainScope) : Type 0 where
+pub record Applies (old : PlainScope) (taken : BoxStep) (answer : Option Assignment) (new : PlainScope) : Type 0 where
   pub constraints : new.constraints ≡ old.constraints
   pub live : new.live ≡ old.live
   pub given : new.given.items ≡ given_after taken old.given.items
@@ -92,7 +91,7 @@ pub record KeepsBoxes (old new : PlainScope) : Type 0 where
   pub boxes : new.boxes.items ≡ old.boxes.items
 
 -- all but the current scope is as it was
-pub record KeepsParents (old new : Seen) : Type 0 where
+pub record KeepsParents (old new : SessionState) : Type 0 where
   pub scope : Scope
   pub is : new ≡ with_scope old scope
 

@@ -1,19 +1,16 @@
 -- What holds of every session while each call answers Ok, and of each of its scopes.
-use Rattle.std.specs.Prelude.{◌≡◌, ◌⊎◌, ◌+◌, ◌*◌, ◌≤◌, true, false, ℤ, List, [], ◌∷◌, ◌++◌, length, All}
+use Rattle.std.specs.Prelude.{◌≡◌, ◌⊎◌, ◌+◌, ◌*◌, ◌≤◌, true, List, [], ◌∷◌, ◌++◌, length, All}
 use Rattle.ms_trees.specs.declared.tree.Ground.{Ground}
 use Rattle.ms_trees.specs.declared.branching.Branching.{Branching}
-use Rattle.ms_session.specs.Sets.{Set, IsSet}
-use Rattle.ms_session.specs.Boxes.{Each, EachPair, IsGiven, Assignment, Box, InBox, InSome, IsBox, Disjoint, box_size, frontier_nodes}
-use Rattle.ms_session.specs.Branchings.{IsOrdered, Before, compared}
-use Rattle.ms_session.specs.Scopes.{Scope, Seen, Meets, IsConstraint}
+use Rattle.ms_boxes.specs.Boxes.{IsDeclared, Each, EachPair, IsGiven, Assignment, Box, InBox, InSome, IsBox, Disjoint, box_size, frontier_nodes}
+use Rattle.ms_boxes.specs.Branchings.{IsOrdered}
+use Rattle.ms_boxes.specs.Laws.{AllBefore}
+use Rattle.ms_session.specs.Scopes.{Scope, SessionState}
+use Rattle.ms_boxes.specs.Trees.{Meets, IsConstraint}
 
--- a declared set has both its ends, or no number at all
-abbrev pub IsDeclared : Set → Type 0
-IsDeclared s = IsSet s ⊎ ((z : ℤ) → s.has z ≡ false)
-
--- each assignment of the first box comes before each of the second
-abbrev pub AllBefore : Branching → Box → Box → Type 0
-AllBefore br b c = (p q : Assignment) → InBox p b → InBox q c → Before (compared br (length b)) p q
+-- the two assignments are not the same
+abbrev pub AreDifferent : Assignment → Assignment → Type 0
+AreDifferent p q = p ≡ q → ⊥
 
 pub record IsValid (sets : Box) (br : Branching) (sc : Scope) : Type 0 where
   -- each constraint is fit for the declared sets
@@ -27,6 +24,8 @@ pub record IsValid (sets : Box) (br : Branching) (sc : Scope) : Type 0 where
   pub covers : (p : Assignment) → InBox p sets → Meets sc.cons p → IsGiven sc.given p ⊎ InSome p sc.frontier
   -- what was spent, with what the boxes may take, is at most twice the number of all assignments
   pub bounded : sc.spent + frontier_nodes sc.frontier ≤ 2 * box_size sets
+  -- no solution is given twice
+  pub once : EachPair AreDifferent sc.given
   pub closed : sc.closed ≡ true → sc.frontier ≡ []
   pub given : (p : Assignment) → IsGiven sc.given p → InBox p sets
   -- under an ordered branching the boxes stand in order
@@ -41,7 +40,7 @@ abbrev pub Nested : Scope → List Scope → Type 0
 Nested sc [] = Unit {0}
 Nested sc (parent ∷ below) = Extends sc parent × Nested parent below
 
-pub record IsValidSession (s : Seen) : Type 0 where
+pub record IsValidSession (s : SessionState) : Type 0 where
   pub declared : Each IsDeclared s.sets
   pub scopes : Each (IsValid s.sets s.branching) (s.scope ∷ s.parents)
   pub nested : Nested s.scope s.parents

@@ -1,4 +1,4 @@
-ghost use Rattle.ms_session.specs.Laws.{NodesKeepValid, NextKeepsValid, FewNodes, LargeFrameNeverCuts, EnoughStaysEnough, NextIsBySolutions, NextHasItsEffect, ClosedMeansAllGiven, OpeningIsValid, EnteringKeepsValid, LeavingKeepsValid, PostingKeepsValid, SteppingKeepsValid, OpeningHasRoom, EnteringKeepsRoom, LeavingKeepsRoom, PostingKeepsRoom, SteppingKeepsRoom};
+ghost use Rattle.ms_session.specs.Laws.{NodesKeepValid, NextKeepsValid, FewNodes, EnoughIsLeft, EnoughIsNeverSpent, LargeFrameNeverCuts, EnoughStaysEnough, NextIsBySolutions, NextHasItsEffect, ClosedMeansAllGiven, SpendingKeepsFrames, BeginningIsValid, OpeningIsValid, EnteringKeepsValid, LeavingKeepsValid, PostingKeepsValid, SteppingKeepsValid, OpeningHasRoom, PushingKeepsRoom, PoppingKeepsRoom, EnteringKeepsRoom, LeavingKeepsRoom, PostingKeepsRoom, SteppingKeepsRoom};
 
 /// Does nothing: its contract says that each node and each `next` keeps a scope valid.
 pub fn validity_laws()
@@ -7,10 +7,12 @@ pub fn validity_laws()
 {}
 
 /// Does nothing: its contract says that a scope takes at most twice as many nodes as there are assignments, in
-/// its whole life, and that a frame with enough left for the nodes that it may still take never cuts its `next`,
-/// this time or later.
+/// its whole life, and that of a frame with enough left for the nodes that it may still take a node is left as long as
+/// there is a box: so it never cuts its `next`, this time or later, and where all frames have enough nothing does.
 pub fn limit_laws()
     ensures few { FewNodes }
+    ensures left { EnoughIsLeft }
+    ensures never { EnoughIsNeverSpent }
     ensures enough { LargeFrameNeverCuts }
     ensures stays { EnoughStaysEnough }
 {}
@@ -22,15 +24,18 @@ pub fn solution_law()
 {}
 
 /// Does nothing: its contract says what `next` leaves of the scope and of the frames, by its answer, and that a
-/// scope whose search has come to its end has given all that meets its constraints.
+/// scope whose search has come to its end has given all that meets its constraints; and that frames which lose nodes
+/// stay as many, each with its number.
 pub fn effect_laws()
     ensures effect { NextHasItsEffect }
     ensures closed { ClosedMeansAllGiven }
+    ensures frames { SpendingKeepsFrames }
 {}
 
 /// Does nothing: its contract says that a session is valid where it begins, and that each call that answers `Ok`,
 /// and `leave`, keeps it so. After want of memory nothing is said of the current scope.
 pub fn session_laws()
+    ensures beginning { BeginningIsValid }
     ensures opening { OpeningIsValid }
     ensures entering { EnteringKeepsValid }
     ensures leaving { LeavingKeepsValid }
@@ -42,25 +47,10 @@ pub fn session_laws()
 /// session are taken from one budget; so `next` may be called after any calls that answered `Ok`, and `leave`.
 pub fn room_laws()
     ensures opening { OpeningHasRoom }
+    ensures pushing { PushingKeepsRoom }
+    ensures popping { PoppingKeepsRoom }
     ensures entering { EnteringKeepsRoom }
     ensures leaving { LeavingKeepsRoom }
     ensures posting { PostingKeepsRoom }
     ensures stepping { SteppingKeepsRoom }
 {}
-
-#[cfg(test)]
-mod tests {
-    use super::*;
-    use std::test::Fail;
-
-    #[test]
-    fn laws(_rt: HostRuntime) -> Result<(), Fail> {
-        validity_laws();
-        limit_laws();
-        solution_law();
-        effect_laws();
-        session_laws();
-        room_laws();
-        Ok(())
-    }
-}

@@ -28,18 +28,15 @@ mod budget;
 mod cuts;
 mod laws;
 mod nodes;
-mod openings;
 mod picks;
-mod plain;
-mod scope;
+mod plain_node;
+mod plain_scope;
+mod plain_scopes;
+mod plain_session;
 mod session;
-mod stack;
-mod taking;
-#[cfg(test)]
-mod tests;
 
 pub use budget::{Budget, Frame};
 pub use laws::{effect_laws, limit_laws, room_laws, session_laws, solution_law, validity_laws};
 pub use nodes::{Nodes, next_nodes};
-pub use plain::PlainSession;
+pub use plain_session::PlainSession;
 pub use session::{Session, Step};

@@ -1,5 +1,5 @@
-ghost use Rattle.std.specs.Prelude.{◌≡◌, ◌≢◌, ◌↔◌, ◌<◌, ◌+◌, ◌^◌, [], true, IsTrue, IfOk, OnErr};
-ghost use Rattle.ms_session.specs.Scopes.{Seen, NodeGives, Steps, Breaks, Loses, HasRoom, with_scope};
+ghost use Rattle.std.specs.Prelude.{◌≡◌, ◌≢◌, ◌↔◌, ◌<◌, ◌+◌, ◌^◌, [], true, false, IsTrue, IfOk, OnErr};
+ghost use Rattle.ms_session.specs.Scopes.{SessionState, NodeGives, NextGives, Breaks, Loses, HasRoom, with_scope};
 
 use crate::budget::Budget;
 use crate::session::Step;
@@ -8,29 +8,31 @@ use std::alloc::AllocError;
 
 /// What can take one node in its current scope.
 pub trait Nodes {
-    ghost seen: { Self → Seen };
+    ghost state: { Self → SessionState };
 
     /// Whether no box is left to be searched.
     fn is_empty(&self) -> bool
-        ensures { IsTrue result ↔ ((seen self.now).scope.frontier ≡ []) };
+        ensures { IsTrue result ↔ ((state self.now).scope.frontier ≡ []) };
 
     /// Notes that the search of the scope has come to its end.
     fn close(&mut self)
-        ensures { seen self.new ≡ with_scope (seen self.old) (record ((seen self.old).scope) { closed = true }) };
+        ensures { state self.new ≡ with_scope (state self.old) (record ((state self.old).scope) { closed = true }) };
 
     /// Takes the first box, which is dropped, answered or split.
     fn node(&mut self) -> Result<Option<Point>, AllocError>
-        requires some { (seen self.old).scope.frontier ≢ [] }
-        requires room { (seen self.old).scope.spent + 1 < 2 ^ 64 }
-        ensures ok { IfOk result (λ answer. NodeGives (seen self.old) answer (seen self.new)) }
-        ensures err { OnErr result (Breaks (seen self.old) (seen self.new)) };
+        requires usable { (state self.old).failed ≡ false }
+        requires some { (state self.old).scope.frontier ≢ [] }
+        requires room { (state self.old).scope.spent + 1 < 2 ^ 64 }
+        ensures ok { IfOk result (λ answer. NodeGives (state self.old) answer (state self.new)) }
+        ensures err { OnErr result (Breaks (state self.old) (state self.new)) };
 }
 
 /// Takes nodes until there is an answer, no box or no node left.
 pub fn next_nodes<N: Nodes>(nodes: &mut N, budget: &mut Budget) -> Result<Step, AllocError>
-    requires room { HasRoom budget.old (N.seen nodes.old).scope }
-    ensures ok { IfOk result (λ step. Steps (N.seen nodes.old) budget.old step (N.seen nodes.new) budget.new) }
-    ensures err { OnErr result (Breaks (N.seen nodes.old) (N.seen nodes.new) × Loses budget.old budget.new) }
+    requires usable { (N.state nodes.old).failed ≡ false }
+    requires room { HasRoom budget.old (N.state nodes.old).scope }
+    ensures ok { IfOk result (λ step. NextGives (N.state nodes.old) budget.old step (N.state nodes.new) budget.new) }
+    ensures err { OnErr result (Breaks (N.state nodes.old) (N.state nodes.new) × Loses budget.old budget.new) }
 {
     'nodes: while !nodes.is_empty() {
         match budget.empty_frame() {

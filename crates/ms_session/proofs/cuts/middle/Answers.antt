@@ -1,5 +1,5 @@
-use Rattle.ms_session.proofs.RangeSets.{middle_read}
+use Rattle.ms_session.proofs.PartsOfSets.{middle_read}
 use Rattle.ms_session.proofs.cuts.middle.Goals as goal
 
-pub returns : goal.returns
-returns c = middle_read c.args.iv c.lo-lo.result c.hi-hi.result c.lo-lo.ensures.within c.lo-lo.ensures.value c.hi-hi.ensures.value
+pub returns-clause-value : goal.returns-clause-value
+returns-clause-value c = middle_read c.args.iv c.lo-lo.result c.hi-hi.result c.lo-lo.ensures.within c.lo-lo.ensures.value c.hi-hi.ensures.value

@@ -1,5 +1,5 @@
 use Rattle.std.proofs.Common.{length}
-use Rattle.ms_session.specs.Plain.{box_of}
+use Rattle.ms_boxes.specs.Boxes.{box_of}
 use Rattle.ms_session.proofs.Turns.{FirstFrom}
 use Rattle.ms_session.proofs.picks.first_in_order.Given as goal
 

@@ -1,0 +1,5 @@
+pub mod Boxes
+pub mod Branchings
+pub mod Laws
+pub mod Nodes
+pub mod Trees

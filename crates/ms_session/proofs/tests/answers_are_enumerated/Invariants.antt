@@ -1,9 +1,0 @@
-use Rattle.ms_session.specs.Laws.{AllHaveRoom}
-use Rattle.ms_session.specs.Stored.{seen_of}
-use Rattle.ms_session.proofs.tests.answers_are_enumerated.Given as goal
-
-abbrev pub invariant-loop-x : goal.invariant-loop-x
-invariant-loop-x g l = AllHaveRoom l.budget (seen_of l.session)
-
-abbrev pub invariant-loop-y : goal.invariant-loop-y
-invariant-loop-y g l = AllHaveRoom l.budget (seen_of l.session)

@@ -1,8 +1,0 @@
-use Rattle.std.specs.Prelude.{pos}
-use Rattle.ms_trees.specs.declared.tree.Ground.TheVariants as g
-use Rattle.ms_session.specs.Samples.{square}
-use Rattle.ms_session.proofs.Sampled.{if_ok_is, truth_of, family_rest}
-use Rattle.ms_session.proofs.tests.trees.divides.Goals as goal
-
-pub returns : goal.returns
-returns c = if_ok_is c.equal.result _ square c.equal.ensures (truth_of square c.in_ok-left.left _ (λ q. g.Eq q (g.Num (pos 0))) c.in_ok-left.ensures family_rest)

@@ -1,0 +1,152 @@
+ghost use Rattle.std.specs.Prelude.{◌≡◌, ◌↔◌, ◌<◌, true, All, Any, IsTrue, IfOk, MatchBool, MatchOption, length};
+ghost use Rattle.ms_trees.specs.WellFormed.{IsTruth};
+ghost use Rattle.ms_trees.specs.Laws.{Refuted};
+ghost use Rattle.ms_trees.specs.Enclosure.{points};
+ghost use Rattle.ms_num.specs.Sets.{spans_of};
+ghost use Rattle.ms_boxes.specs.Boxes.{box_size, box_of, IsProper, least_point};
+ghost use Rattle.ms_boxes.specs.Branchings.{is_unfixed as unfixed_in};
+ghost use Rattle.ms_boxes.specs.Trees.{Meets, HoldsNone, IsOnly, NoneRefuted};
+ghost use Rattle.ms_session.specs.Plain.{Halves, MayBeTrue, IsBoxStep};
+
+use crate::cuts::{values_left, values_tried};
+use crate::picks::pick;
+use ms_base::Point;
+use ms_ground::{Branching, Ground, ValueChoice, holds, hull, hull_laws};
+use ms_num::{Iv, Ranges, Sets};
+use std::alloc::{AllocError, Global};
+
+/// What one node makes of a box.
+#[derive(Drop)]
+pub enum BoxStep {
+    Dropped,
+    Answered(Point),
+    /// The part that is tried first, and the other.
+    Split(Sets, Sets),
+}
+
+/// Takes one node: a box of one assignment is answered or dropped, and a larger one is dropped where a constraint
+/// is refuted on it, else split.
+pub fn box_step(
+    alloc: Global,
+    sets: Sets,
+    constraints: &[Ground],
+    branching: &Branching,
+) -> Result<BoxStep, AllocError>
+    requires proper { IsProper (box_of sets) }
+    requires fit { All (IsTruth (spans_of (box_of sets))) constraints.now }
+    ensures { IfOk result (IsBoxStep branching.now constraints.now (box_of sets)) }
+{
+    match pick(sets.as_slice(), branching) {
+        None => match only_answer(alloc, sets.as_slice(), constraints)? {
+            Some(point) => Ok(BoxStep::Answered(point)),
+            None => Ok(BoxStep::Dropped),
+        },
+        Some((variable, choice)) => {
+            if is_refuted(alloc, sets.as_slice(), constraints)? {
+                return Ok(BoxStep::Dropped);
+            }
+            let (first, second) = halves(alloc, sets, variable, choice)?;
+            Ok(BoxStep::Split(first, second))
+        }
+    }
+}
+
+// The assignment of a box that has no other, where it meets the constraints.
+fn only_answer(
+    alloc: Global,
+    sets: &[Ranges],
+    constraints: &[Ground],
+) -> Result<Option<Point>, AllocError>
+    requires proper { IsProper (box_of sets.now) }
+    requires single { box_size (box_of sets.now) ≡ 1 }
+    requires fit { All (IsTruth (spans_of (box_of sets.now))) constraints.now }
+    ensures { IfOk result (λ answer. MatchOption answer (HoldsNone constraints.now (box_of sets.now)) (IsOnly constraints.now (box_of sets.now))) }
+{
+    let point = least(alloc, sets)?;
+    if meets(constraints, &point) {
+        Ok(Some(Point::from_vec(point)))
+    } else {
+        Ok(None)
+    }
+}
+
+// Whether a constraint is refuted on the box, so that no assignment of it meets them all.
+fn is_refuted(alloc: Global, sets: &[Ranges], constraints: &[Ground]) -> Result<bool, AllocError>
+    requires proper { IsProper (box_of sets.now) }
+    requires fit { All (IsTruth (spans_of (box_of sets.now))) constraints.now }
+    ensures { IfOk result (λ refuted. MatchBool refuted (HoldsNone constraints.now (box_of sets.now)) (NoneRefuted constraints.now (box_of sets.now))) }
+{
+    hull_laws();
+    let spans = spans(alloc, sets)?;
+    Ok(!may_hold(constraints, &spans))
+}
+
+// The part of a box that is tried first, and the other.
+fn halves(
+    alloc: Global,
+    sets: Sets,
+    variable: usize,
+    choice: ValueChoice,
+) -> Result<(Sets, Sets), AllocError>
+    requires proper { IsProper (box_of sets) }
+    requires open { unfixed_in (box_of sets) variable ≡ true }
+    requires within { variable < length sets }
+    ensures { IfOk result (λ parts. Halves (box_of sets) variable choice (box_of parts.0) (box_of parts.1)) }
+{
+    let tried = values_tried(alloc, &sets.as_slice()[variable], choice)?;
+    let left = values_left(alloc, &sets.as_slice()[variable], choice)?;
+    let mut first = sets.copy(alloc)?.into_vec();
+    first[variable] = tried;
+    let mut second = sets.into_vec();
+    second[variable] = left;
+    Ok((Sets::from_vec(first), Sets::from_vec(second)))
+}
+
+// The least number of each set.
+fn least(alloc: Global, sets: &[Ranges]) -> Result<Vec<i64>, AllocError>
+    requires { IsProper (box_of sets.now) }
+    ensures { IfOk result (λ numbers. numbers.items ≡ least_point (box_of sets.now)) }
+{
+    let mut numbers = Vec::with_capacity(alloc, sets.len())?;
+    for set in sets {
+        numbers.push(set.ends().lo())?;
+    }
+    Ok(numbers)
+}
+
+// The interval of each set.
+fn spans(alloc: Global, sets: &[Ranges]) -> Result<Vec<Iv>, AllocError>
+    requires { IsProper (box_of sets.now) }
+    ensures { IfOk result (λ spans. spans.items ≡ spans_of (box_of sets.now)) }
+{
+    let mut spans = Vec::with_capacity(alloc, sets.len())?;
+    for set in sets {
+        spans.push(set.ends())?;
+    }
+    Ok(spans)
+}
+
+fn meets(constraints: &[Ground], point: &[i64]) -> bool
+    requires { All (IsTruth (points point.now)) constraints.now }
+    ensures { IsTrue result ↔ Meets constraints.now point.now }
+{
+    for constraint in constraints {
+        if !holds(constraint, point) {
+            return false;
+        }
+    }
+    true
+}
+
+// Whether no constraint is refuted on the intervals.
+fn may_hold(constraints: &[Ground], spans: &[Iv]) -> bool
+    requires { All (IsTruth spans.now) constraints.now }
+    ensures { MatchBool result (All (MayBeTrue spans.now) constraints.now) (Any (Refuted spans.now) constraints.now) }
+{
+    for constraint in constraints {
+        if !hull(constraint, spans).may_be_true {
+            return false;
+        }
+    }
+    true
+}

@@ -1,0 +1,236 @@
+ghost use Rattle.std.specs.Prelude.{◌≡◌, ◌≤◌, IfOk};
+ghost use Rattle.ms_boxes.specs.Boxes.{Each, IsDeclared, box_of};
+ghost use Rattle.ms_session.specs.Scopes.{live_nodes};
+
+use crate::nodes::Nodes;
+use crate::plain_node::box_step;
+use crate::plain_scope::PlainScope;
+use ms_base::Point;
+use ms_ground::{Branching, Ground, hull_laws, size};
+use ms_num::{Ranges, Sets};
+use std::alloc::{AllocError, Global};
+use std::marker::Model;
+use std::mem;
+
+/// The scopes of a plain session. Contracts see what is stored.
+#[derive(Drop)]
+pub struct PlainScopes {
+    alloc: Global,
+    declared: Sets,
+    branching: Branching,
+    current: PlainScope,
+    // The scopes below the current one, the nearest last.
+    parents: Vec<PlainScope>,
+    failed: bool,
+}
+
+impl Model for PlainScopes {
+    ghost use Rattle.std.specs.Prelude.{map, reverse};
+    ghost use Rattle.std.specs.Coded.{codes};
+    ghost use Rattle.ms_trees.specs.contracts.tree.Ground as tree;
+    ghost use Rattle.ms_boxes.specs.Boxes.{box_of};
+    ghost use Rattle.ms_session.specs.Stored.{Stored, stored_of, AreSound};
+
+    ghost Value = { Stored };
+
+    ghost coded = { Prim.hlevel (codes, tree.the_row.coded) };
+
+    ghost view = { λ s. record { sets = s.declared; branching = s.branching; scope = stored_of s.current; parents = map stored_of (reverse s.parents.items); failed = s.failed } };
+
+    ghost invariant = { λ s. AreSound (box_of s.declared) s.current s.parents.items };
+}
+
+impl PlainScopes {
+    ghost use Rattle.std.specs.Prelude.{◌≡◌, ◌≢◌, ◌≤◌, ◌<◌, ◌+◌, ◌^◌, [], length, All, IfOk, OnOk, OnErr, IsErr, true, option_map};
+    ghost use Rattle.ms_trees.specs.Size.{size_of};
+    ghost use Rattle.ms_boxes.specs.Trees.{IsConstraint};
+    ghost use Rattle.ms_session.specs.Scopes.{IsOpening, NodeGives, Enters, Leaves, Breaks, with_constraint, live_nodes, last_of};
+    ghost use Rattle.ms_session.specs.Valid.{IsValidSession};
+    ghost use Rattle.ms_boxes.specs.Boxes.{box_of};
+    ghost use Rattle.ms_session.specs.Stored.{state_of, KeepsParents};
+
+    pub fn open(
+        alloc: Global,
+        sets: &[Ranges],
+        constraints: &[Ground],
+        branching: Branching,
+    ) -> Result<PlainScopes, AllocError>
+        requires fit { All (IsConstraint (box_of sets.now)) constraints.now }
+        requires total { live_nodes constraints.now ≤ 2000000 }
+        ensures opening { IfOk result (λ scopes. IsOpening (box_of sets.now) branching constraints.now (state_of scopes)) }
+        ensures valid { IfOk result (λ scopes. IsValidSession (state_of scopes)) }
+    {
+        let declared = declare(alloc, sets)?;
+        let live = total_size(constraints);
+        let current = PlainScope::open(alloc, &declared, constraints, live)?;
+        Ok(PlainScopes {
+            alloc,
+            declared,
+            branching,
+            current,
+            parents: Vec::new(alloc),
+            failed: false,
+        })
+    }
+
+    pub fn depth(&self) -> usize
+        ensures { result ≡ length (state_of self.now).parents + 1 }
+    {
+        self.parents.len() + 1
+    }
+
+    pub fn failed(&self) -> bool
+        ensures { result ≡ (state_of self.now).failed }
+    {
+        self.failed
+    }
+
+    pub fn live(&self) -> u64
+        ensures { result ≡ live_nodes (state_of self.now).scope.cons }
+    {
+        self.current.live
+    }
+
+    pub fn last(&self) -> Option<&[i64]>
+        ensures { option_map (λ p. p.now) result ≡ last_of (state_of self.now).scope.given }
+    {
+        match self.current.given.last() {
+            Some(point) => Some(point.as_slice()),
+            None => None,
+        }
+    }
+
+    pub fn enter(&mut self) -> Result<(), AllocError>
+        requires { length (state_of self.old).parents + 1 < 200 }
+        ensures ok { OnOk result (Enters (state_of self.old) (state_of self.new)) }
+        ensures err { OnErr result (Breaks (state_of self.old) (state_of self.new)) }
+    {
+        match self.add_scope() {
+            Ok(()) => Ok(()),
+            Err(refused) => self.fail(refused),
+        }
+    }
+
+    pub fn leave(&mut self)
+        requires { 0 < length (state_of self.old).parents }
+        ensures { Leaves (state_of self.old) (state_of self.new) }
+    {
+        if let Some(parent) = self.parents.pop() {
+            self.current = parent;
+        }
+    }
+
+    pub fn post(&mut self, constraint: &Ground) -> Result<(), AllocError>
+        requires fit { IsConstraint (state_of self.old).sets constraint.now }
+        requires total { live_nodes (state_of self.old).scope.cons + size_of constraint.now ≤ 2000000 }
+        ensures ok { OnOk result (state_of self.new ≡ with_constraint (state_of self.old) constraint.now) }
+        ensures err { OnErr result (Breaks (state_of self.old) (state_of self.new)) }
+    {
+        match self.add_constraint(constraint) {
+            Ok(()) => Ok(()),
+            Err(refused) => self.fail(refused),
+        }
+    }
+
+    fn add_scope(&mut self) -> Result<(), AllocError>
+        requires { length (state_of self.old).parents + 1 < 200 }
+        ensures ok { OnOk result (Enters (state_of self.old) (state_of self.new)) }
+        ensures err { OnErr result (self.new ≡ self.old) }
+    {
+        self.parents.reserve(1)?;
+        let current = &self.current;
+        let child = PlainScope::open(
+            self.alloc,
+            &self.declared,
+            current.constraints.as_slice(),
+            current.live,
+        )?;
+        let parent = mem::replace(&mut self.current, child);
+        self.parents.push_reserved(parent);
+        Ok(())
+    }
+
+    fn add_constraint(&mut self, constraint: &Ground) -> Result<(), AllocError>
+        requires fit { IsConstraint (state_of self.old).sets constraint.now }
+        requires total { live_nodes (state_of self.old).scope.cons + size_of constraint.now ≤ 2000000 }
+        ensures ok { OnOk result (state_of self.new ≡ with_constraint (state_of self.old) constraint.now) }
+        ensures err { OnErr result (self.new ≡ self.old) }
+    {
+        let copied = constraint.copy(self.alloc)?;
+        self.current.constraints.push(copied)?;
+        self.current.live += size(constraint);
+        Ok(())
+    }
+
+    // Takes one node.
+    fn take_first(&mut self) -> Result<Option<Point>, AllocError>
+        requires some { (state_of self.old).scope.frontier ≢ [] }
+        requires room { (state_of self.old).scope.spent + 1 < 2 ^ 64 }
+        ensures ok { IfOk result (λ answer. NodeGives (state_of self.old) answer (state_of self.new)) }
+        ensures err { OnErr result (KeepsParents (state_of self.old) (state_of self.new)) }
+    {
+        hull_laws();
+        let Some(first) = self.current.boxes.pop() else {
+            return Ok(None);
+        };
+        let constraints = self.current.constraints.as_slice();
+        let step = box_step(self.alloc, first, constraints, &self.branching)?;
+        self.current.apply(self.alloc, step)
+    }
+
+    // The session is failed from now on.
+    fn fail<T>(&mut self, refused: AllocError) -> Result<T, AllocError>
+        ensures failed { self.new ≡ record self.old { failed = true } }
+        ensures err { IsErr result }
+    {
+        self.failed = true;
+        Err(refused)
+    }
+}
+
+impl Nodes for PlainScopes {
+    ghost use Rattle.ms_session.specs.Stored.{state_of};
+
+    ghost state = { λ s. state_of s };
+
+    fn is_empty(&self) -> bool {
+        self.current.boxes.is_empty()
+    }
+
+    fn close(&mut self) {
+        self.current.closed = true;
+    }
+
+    fn node(&mut self) -> Result<Option<Point>, AllocError> {
+        match self.take_first() {
+            Ok(answer) => Ok(answer),
+            Err(refused) => self.fail(refused),
+        }
+    }
+}
+
+// Copies the declared sets.
+fn declare(alloc: Global, sets: &[Ranges]) -> Result<Sets, AllocError>
+    ensures value { IfOk result (λ declared. declared ≡ sets.now) }
+    ensures proper { IfOk result (λ _. Each IsDeclared (box_of sets.now)) }
+{
+    let mut copies = Vec::with_capacity(alloc, sets.len())?;
+    for set in sets {
+        // Its ranges rise, so that it has both its ends.
+        let _rising = set.ranges();
+        copies.push(set.copy(alloc)?)?;
+    }
+    Ok(Sets::from_vec(copies))
+}
+
+// The sizes of the trees together.
+fn total_size(trees: &[Ground]) -> u64
+    requires { live_nodes trees.now ≤ 2000000 }
+    ensures { result ≡ live_nodes trees.now }
+{
+    let mut total = 0;
+    for tree in trees {
+        total += size(tree);
+    }
+    total
+}

@@ -1,0 +1,9 @@
+//! Tests of sessions, in a crate of their own since a crate with tests is proved twice.
+#![tactic(auto)]
+
+#[cfg(test)]
+mod frames;
+#[cfg(test)]
+mod laws;
+#[cfg(test)]
+mod tests;
