@@ -1,5 +1,8 @@
 //! The numbers that limit what is taken.
 
+/// The greatest number of bytes of a model or data file.
+pub const FILE_LIMIT: usize = 1048576;
+
 /// The greatest number of bytes of a trace file.
 pub const TRACE_LIMIT: usize = 67108864;
 
@@ -21,7 +24,8 @@ pub const EVALUATION_STEP_LIMIT: u64 = 20000000;
 /// How deep a ground tree may nest.
 pub const TREE_NESTING_LIMIT: usize = 500;
 
-/// How many calls of predicates and functions may be open at one moment while an expression is evaluated.
+/// How many calls of predicates and functions may be open at one moment while an expression is
+/// evaluated.
 pub const CALL_NESTING_LIMIT: usize = 500;
 
 /// The greatest number of nodes of the ground trees in the arguments of one call of a search.

@@ -3,7 +3,8 @@ ghost use Rattle.std.specs.Prelude.{◌≡◌, IfOk};
 use std::alloc::{AllocError, Global};
 use std::marker::Model;
 
-/// An assignment: the number of each variable, in the order of the variables. Contracts see the list.
+/// An assignment: the number of each variable, in the order of the variables. Contracts see the
+/// list.
 #[derive(Debug, Drop)]
 pub struct Point {
     numbers: Vec<i64>,

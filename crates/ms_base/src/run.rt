@@ -1,9 +1,3 @@
-/// The greatest number of bytes of a model or data file.
-pub const FILE_LIMIT: usize = 1048576;
-
-/// Which text a place is in: 0 the model, 1 the data, 2 the library.
-pub type FileNo = u8;
-
 /// How a run ended, by its end state.
 #[derive(Clone, Copy, Debug, PartialEq, Eq)]
 pub enum Closing {

@@ -5,6 +5,7 @@ pub mod Exists
 pub mod Faults
 pub mod Keywords
 pub mod OneAnswer
+pub mod Placed
 pub mod Runs
 pub mod Spelled
 pub mod Symbols

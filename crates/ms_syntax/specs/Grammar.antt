@@ -1,6 +1,7 @@
 -- The grammar: which tokens a tree is written as. Each operand is of a level that its place allows, so tokens are
 -- written by one tree at most.
 use Rattle.std.specs.Prelude.{◌≡◌, ℕ, zero, suc, ◌≤◌, List, [], ◌∷◌, ◌++◌, length, Option, Some, None, IsSome, option_and_then, Bool, true, false, if◌then◌else◌}
+use Rattle.ms_base.specs.declared.limits.TheConstants.{NESTING_LIMIT}
 use Rattle.ms_syntax.specs.declared.token.Place.{Place}
 use Rattle.ms_syntax.specs.declared.token.Token.{Token}
 use Rattle.ms_syntax.specs.declared.token.Token.TheVariants as t
@@ -375,7 +376,7 @@ left n [] = Some n
 left n (y ∷ w) = option_and_then (λ m. left m w) (left_after n y.token)
 
 abbrev pub max_nesting : ℕ
-max_nesting = 200
+max_nesting = NESTING_LIMIT
 
 abbrev pub IsShallow : Tokens → Type 0
 IsShallow w = IsSome (left max_nesting w)

@@ -6,7 +6,7 @@ pub mod Gathering
 pub mod Grammar
 pub mod Grouping
 pub mod Keywords
-pub mod Kind
+pub mod Token
 pub mod OneAnswer
 pub mod Spelling
 pub mod Tree

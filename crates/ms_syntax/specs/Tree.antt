@@ -193,8 +193,11 @@ of_equivalence = 11
 abbrev pub one_link : Operator × Place × Ex → Links
 one_link l = link l.0 l.1 l.2 no_links
 
--- what stands for each type: Base, Expr, Index, Arm, Declaration, Generator, Generators, Kind, Link, Note, Row, Subscript
-abbrev pub ex_step : Expr-F Bs Ex Maybe (Ex × Ex) Decl (Names × Ex) (Gens × Maybe) Kd (Operator × Place × Ex) (Place × List ℕ × Exs) Exs (Ex × Maybe) → Ex
+-- what stands inside for Base, Expr, Index, Arm, Declaration, Generator, Generators, Kind, Link, Note, Row, Subscript
+abbrev pub Layer : (Type 0 → Type 0 → Type 0 → Type 0 → Type 0 → Type 0 → Type 0 → Type 0 → Type 0 → Type 0 → Type 0 → Type 0 → Type 0) → Type 0
+Layer F = F Bs Ex Maybe (Ex × Ex) Decl (Names × Ex) (Gens × Maybe) Kd (Operator × Place × Ex) (Place × List ℕ × Exs) Exs (Ex × Maybe)
+
+abbrev pub ex_step : Layer Expr-F → Ex
 ex_step (Expr-F.Let p ds closed e) = let_in p (decls_of ds.items) closed e.value
 ex_step (Expr-F.Equivalence first links) = chain of_equivalence first.value (links_of links.items)
 ex_step (Expr-F.Implication first links) = chain of_implication first.value (links_of links.items)
@@ -221,7 +224,7 @@ ex_step (Expr-F.Rows p rs) = rows p (rows_of rs.items)
 ex_step (Expr-F.Set p es) = set p (exs_of es.items)
 ex_step (Expr-F.If p c t more e) = if_else p c.value t.value (arms_of more.items) e.value
 
-abbrev pub base_step : Base-F Bs Ex Maybe (Ex × Ex) Decl (Names × Ex) (Gens × Maybe) Kd (Operator × Place × Ex) (Place × List ℕ × Exs) Exs (Ex × Maybe) → Bs
+abbrev pub base_step : Layer Base-F → Bs
 base_step (Base-F.Bool) = of_bool
 base_step (Base-F.Int) = of_int
 base_step (Base-F.String) = of_string
@@ -230,74 +233,74 @@ base_step (Base-F.SetOfInt) = set_of_int
 base_step (Base-F.SetOf e) = set_of e
 base_step (Base-F.Within e) = of_values e
 
-abbrev pub index_step : Index-F Bs Ex Maybe (Ex × Ex) Decl (Names × Ex) (Gens × Maybe) Kd (Operator × Place × Ex) (Place × List ℕ × Exs) Exs (Ex × Maybe) → Maybe
+abbrev pub index_step : Layer Index-F → Maybe
 index_step (Index-F.AnyInt) = absent
 index_step (Index-F.Over e) = present e
 
-abbrev pub arm_step : Arm-F Bs Ex Maybe (Ex × Ex) Decl (Names × Ex) (Gens × Maybe) Kd (Operator × Place × Ex) (Place × List ℕ × Exs) Exs (Ex × Maybe) → Ex × Ex
+abbrev pub arm_step : Layer Arm-F → Ex × Ex
 arm_step a = (a.condition, a.branch)
 
-abbrev pub declaration_step : Declaration-F Bs Ex Maybe (Ex × Ex) Decl (Names × Ex) (Gens × Maybe) Kd (Operator × Place × Ex) (Place × List ℕ × Exs) Exs (Ex × Maybe) → Decl
+abbrev pub declaration_step : Layer Declaration-F → Decl
 declaration_step d = declare d.place d.kind d.name (notes_of d.notes.items) (maybe_of d.value)
 
-abbrev pub generator_step : Generator-F Bs Ex Maybe (Ex × Ex) Decl (Names × Ex) (Gens × Maybe) Kd (Operator × Place × Ex) (Place × List ℕ × Exs) Exs (Ex × Maybe) → Names × Ex
-generator_step g = (names_view g.names.items, g.set)
+abbrev pub generator_step : Layer Generator-F → Names × Ex
+generator_step g = (names_view g.names, g.set)
 
-abbrev pub generators_step : Generators-F Bs Ex Maybe (Ex × Ex) Decl (Names × Ex) (Gens × Maybe) Kd (Operator × Place × Ex) (Place × List ℕ × Exs) Exs (Ex × Maybe) → Gens × Maybe
+abbrev pub generators_step : Layer Generators-F → Gens × Maybe
 generators_step g = (gens_of g.list.items, maybe_of (option_map (λ b. b.value) g.condition))
 
-abbrev pub kind_step : Kind-F Bs Ex Maybe (Ex × Ex) Decl (Names × Ex) (Gens × Maybe) Kd (Operator × Place × Ex) (Place × List ℕ × Exs) Exs (Ex × Maybe) → Kd
+abbrev pub kind_step : Layer Kind-F → Kd
 kind_step k = kind (indices_of k.indices.items) k.mode k.base
 
-abbrev pub link_step : Link-F Bs Ex Maybe (Ex × Ex) Decl (Names × Ex) (Gens × Maybe) Kd (Operator × Place × Ex) (Place × List ℕ × Exs) Exs (Ex × Maybe) → Operator × Place × Ex
+abbrev pub link_step : Layer Link-F → Operator × Place × Ex
 link_step l = (l.operator, l.place, l.operand)
 
-abbrev pub note_step : Note-F Bs Ex Maybe (Ex × Ex) Decl (Names × Ex) (Gens × Maybe) Kd (Operator × Place × Ex) (Place × List ℕ × Exs) Exs (Ex × Maybe) → Place × List ℕ × Exs
+abbrev pub note_step : Layer Note-F → Place × List ℕ × Exs
 note_step n = (n.place, n.name, exs_of n.arguments.items)
 
-abbrev pub row_step : Row-F Bs Ex Maybe (Ex × Ex) Decl (Names × Ex) (Gens × Maybe) Kd (Operator × Place × Ex) (Place × List ℕ × Exs) Exs (Ex × Maybe) → Exs
+abbrev pub row_step : Layer Row-F → Exs
 row_step r = exs_of r.elements.items
 
-abbrev pub subscript_step : Subscript-F Bs Ex Maybe (Ex × Ex) Decl (Names × Ex) (Gens × Maybe) Kd (Operator × Place × Ex) (Place × List ℕ × Exs) Exs (Ex × Maybe) → Ex × Maybe
+abbrev pub subscript_step : Layer Subscript-F → Ex × Maybe
 subscript_step i = (i.first, maybe_of i.second)
 
 -- ---- what each Rust type stands for
 
 abbrev pub base_view : Base → Bs
-base_view = fold-Base Bs Ex Maybe (Ex × Ex) Decl (Names × Ex) (Gens × Maybe) Kd (Operator × Place × Ex) (Place × List ℕ × Exs) Exs (Ex × Maybe) base_step ex_step index_step arm_step declaration_step generator_step generators_step kind_step link_step note_step row_step subscript_step
+base_view = fold-Base _ _ _ _ _ _ _ _ _ _ _ _ base_step ex_step index_step arm_step declaration_step generator_step generators_step kind_step link_step note_step row_step subscript_step
 
 abbrev pub ex_view : Expr → Ex
-ex_view = fold-Expr Bs Ex Maybe (Ex × Ex) Decl (Names × Ex) (Gens × Maybe) Kd (Operator × Place × Ex) (Place × List ℕ × Exs) Exs (Ex × Maybe) base_step ex_step index_step arm_step declaration_step generator_step generators_step kind_step link_step note_step row_step subscript_step
+ex_view = fold-Expr _ _ _ _ _ _ _ _ _ _ _ _ base_step ex_step index_step arm_step declaration_step generator_step generators_step kind_step link_step note_step row_step subscript_step
 
 abbrev pub index_view : Index → Maybe
-index_view = fold-Index Bs Ex Maybe (Ex × Ex) Decl (Names × Ex) (Gens × Maybe) Kd (Operator × Place × Ex) (Place × List ℕ × Exs) Exs (Ex × Maybe) base_step ex_step index_step arm_step declaration_step generator_step generators_step kind_step link_step note_step row_step subscript_step
+index_view = fold-Index _ _ _ _ _ _ _ _ _ _ _ _ base_step ex_step index_step arm_step declaration_step generator_step generators_step kind_step link_step note_step row_step subscript_step
 
 abbrev pub arm_view : Arm → Ex × Ex
-arm_view = fold-Arm Bs Ex Maybe (Ex × Ex) Decl (Names × Ex) (Gens × Maybe) Kd (Operator × Place × Ex) (Place × List ℕ × Exs) Exs (Ex × Maybe) base_step ex_step index_step arm_step declaration_step generator_step generators_step kind_step link_step note_step row_step subscript_step
+arm_view = fold-Arm _ _ _ _ _ _ _ _ _ _ _ _ base_step ex_step index_step arm_step declaration_step generator_step generators_step kind_step link_step note_step row_step subscript_step
 
 abbrev pub declaration_view : Declaration → Decl
-declaration_view = fold-Declaration Bs Ex Maybe (Ex × Ex) Decl (Names × Ex) (Gens × Maybe) Kd (Operator × Place × Ex) (Place × List ℕ × Exs) Exs (Ex × Maybe) base_step ex_step index_step arm_step declaration_step generator_step generators_step kind_step link_step note_step row_step subscript_step
+declaration_view = fold-Declaration _ _ _ _ _ _ _ _ _ _ _ _ base_step ex_step index_step arm_step declaration_step generator_step generators_step kind_step link_step note_step row_step subscript_step
 
 abbrev pub generator_view : Generator → Names × Ex
-generator_view = fold-Generator Bs Ex Maybe (Ex × Ex) Decl (Names × Ex) (Gens × Maybe) Kd (Operator × Place × Ex) (Place × List ℕ × Exs) Exs (Ex × Maybe) base_step ex_step index_step arm_step declaration_step generator_step generators_step kind_step link_step note_step row_step subscript_step
+generator_view = fold-Generator _ _ _ _ _ _ _ _ _ _ _ _ base_step ex_step index_step arm_step declaration_step generator_step generators_step kind_step link_step note_step row_step subscript_step
 
 abbrev pub generators_view : Generators → Gens × Maybe
-generators_view = fold-Generators Bs Ex Maybe (Ex × Ex) Decl (Names × Ex) (Gens × Maybe) Kd (Operator × Place × Ex) (Place × List ℕ × Exs) Exs (Ex × Maybe) base_step ex_step index_step arm_step declaration_step generator_step generators_step kind_step link_step note_step row_step subscript_step
+generators_view = fold-Generators _ _ _ _ _ _ _ _ _ _ _ _ base_step ex_step index_step arm_step declaration_step generator_step generators_step kind_step link_step note_step row_step subscript_step
 
 abbrev pub kind_view : Kind → Kd
-kind_view = fold-Kind Bs Ex Maybe (Ex × Ex) Decl (Names × Ex) (Gens × Maybe) Kd (Operator × Place × Ex) (Place × List ℕ × Exs) Exs (Ex × Maybe) base_step ex_step index_step arm_step declaration_step generator_step generators_step kind_step link_step note_step row_step subscript_step
+kind_view = fold-Kind _ _ _ _ _ _ _ _ _ _ _ _ base_step ex_step index_step arm_step declaration_step generator_step generators_step kind_step link_step note_step row_step subscript_step
 
 abbrev pub link_view : Link → Operator × Place × Ex
-link_view = fold-Link Bs Ex Maybe (Ex × Ex) Decl (Names × Ex) (Gens × Maybe) Kd (Operator × Place × Ex) (Place × List ℕ × Exs) Exs (Ex × Maybe) base_step ex_step index_step arm_step declaration_step generator_step generators_step kind_step link_step note_step row_step subscript_step
+link_view = fold-Link _ _ _ _ _ _ _ _ _ _ _ _ base_step ex_step index_step arm_step declaration_step generator_step generators_step kind_step link_step note_step row_step subscript_step
 
 abbrev pub note_view : Note → Place × List ℕ × Exs
-note_view = fold-Note Bs Ex Maybe (Ex × Ex) Decl (Names × Ex) (Gens × Maybe) Kd (Operator × Place × Ex) (Place × List ℕ × Exs) Exs (Ex × Maybe) base_step ex_step index_step arm_step declaration_step generator_step generators_step kind_step link_step note_step row_step subscript_step
+note_view = fold-Note _ _ _ _ _ _ _ _ _ _ _ _ base_step ex_step index_step arm_step declaration_step generator_step generators_step kind_step link_step note_step row_step subscript_step
 
 abbrev pub row_view : Row → Exs
-row_view = fold-Row Bs Ex Maybe (Ex × Ex) Decl (Names × Ex) (Gens × Maybe) Kd (Operator × Place × Ex) (Place × List ℕ × Exs) Exs (Ex × Maybe) base_step ex_step index_step arm_step declaration_step generator_step generators_step kind_step link_step note_step row_step subscript_step
+row_view = fold-Row _ _ _ _ _ _ _ _ _ _ _ _ base_step ex_step index_step arm_step declaration_step generator_step generators_step kind_step link_step note_step row_step subscript_step
 
 abbrev pub subscript_view : Subscript → Ex × Maybe
-subscript_view = fold-Subscript Bs Ex Maybe (Ex × Ex) Decl (Names × Ex) (Gens × Maybe) Kd (Operator × Place × Ex) (Place × List ℕ × Exs) Exs (Ex × Maybe) base_step ex_step index_step arm_step declaration_step generator_step generators_step kind_step link_step note_step row_step subscript_step
+subscript_view = fold-Subscript _ _ _ _ _ _ _ _ _ _ _ _ base_step ex_step index_step arm_step declaration_step generator_step generators_step kind_step link_step note_step row_step subscript_step
 
 abbrev pub exs_view : List Expr → Exs
 exs_view es = exs_of (map ex_view es)

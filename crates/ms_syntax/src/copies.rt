@@ -1,7 +1,9 @@
 //! Copies of trees. Contracts see a tree as plain data, and a copy is the same data.
 
 ghost use Rattle.std.specs.Prelude.{◌≡◌, IfOk, map, option_map};
-ghost use Rattle.ms_syntax.specs.Tree.{ex_view, base_view, index_view, arm_view, declaration_view, generator_view, generators_view, kind_view, link_view, note_view, row_view, subscript_view, binder_view};
+ghost use Rattle.ms_syntax.specs.Tree.{arm_view, base_view, declaration_view, ex_view};
+ghost use Rattle.ms_syntax.specs.Tree.{generator_view, generators_view, index_view, kind_view};
+ghost use Rattle.ms_syntax.specs.Tree.{link_view, note_view, row_view, subscript_view};
 
 use crate::token::Word;
 use crate::tree::{
@@ -22,19 +24,9 @@ impl Binder {
     }
 }
 
-fn copy_binders(alloc: Global, binders: &[Binder]) -> Result<Vec<Binder>, AllocError>
-    ensures { IfOk result (λ copied. copied.items ≡ binders.now) }
-{
-    let mut all = Vec::new(alloc);
-    for binder in binders {
-        all.push(binder.copy(alloc)?)?;
-    }
-    Ok(all)
-}
-
 impl Expr {
-    /// The same tree once more: it writes the same tokens at the same places. Only the room that its lists have
-    /// set aside may differ, which no view sees.
+    /// The same tree once more: it writes the same tokens at the same places. Only the room that
+    /// its lists have set aside may differ, which no view sees.
     #[cycle(copy)]
     pub fn copy(&self, alloc: Global) -> Result<Expr, AllocError>
         ensures { IfOk result (λ copied. ex_view copied ≡ ex_view self.now) }
@@ -218,7 +210,8 @@ fn copy_rows(alloc: Global, rows: &[Row]) -> Result<Vec<Row>, AllocError>
 
 #[cycle(copy)]
 fn copy_subscripts(alloc: Global, subscripts: &[Subscript]) -> Result<Vec<Subscript>, AllocError>
-    ensures { IfOk result (λ copied. map subscript_view copied.items ≡ map subscript_view subscripts.now) }
+    ensures { IfOk result (λ copied. map subscript_view copied.items
+        ≡ map subscript_view subscripts.now) }
 {
     let mut all = Vec::new(alloc);
     for subscript in subscripts {
@@ -235,12 +228,13 @@ fn copy_generator_list(
     alloc: Global,
     generators: &[Generator],
 ) -> Result<Vec<Generator>, AllocError>
-    ensures { IfOk result (λ copied. map generator_view copied.items ≡ map generator_view generators.now) }
+    ensures { IfOk result (λ copied. map generator_view copied.items
+        ≡ map generator_view generators.now) }
 {
     let mut all = Vec::new(alloc);
     for generator in generators {
         all.push(Generator {
-            names: copy_binders(alloc, &generator.names)?,
+            names: generator.names.copy(alloc)?,
             set: generator.set.copy(alloc)?,
         })?;
     }
@@ -282,7 +276,8 @@ fn copy_declarations(
     alloc: Global,
     declarations: &[Declaration],
 ) -> Result<Vec<Declaration>, AllocError>
-    ensures { IfOk result (λ copied. map declaration_view copied.items ≡ map declaration_view declarations.now) }
+    ensures { IfOk result (λ copied. map declaration_view copied.items
+        ≡ map declaration_view declarations.now) }
 {
     let mut all = Vec::new(alloc);
     for declaration in declarations {
@@ -351,46 +346,4 @@ fn copy_notes(alloc: Global, notes: &[Note]) -> Result<Vec<Note>, AllocError>
         })?;
     }
     Ok(all)
-}
-
-#[cfg(test)]
-mod tests {
-    use crate::{Binder, Expr, Link, Operator, Place, Word};
-    use std::alloc::AllocError;
-    use std::test::Fail;
-
-    /// The first number of a sum, and how many operators it has.
-    fn shape(tree: &Expr) -> Option<(u64, usize)> {
-        match tree {
-            Expr::Sum(first, links) => match &**first {
-                Expr::Number(_, number) => Some((*number, links.len())),
-                _ => None,
-            },
-            _ => None,
-        }
-    }
-
-    #[test]
-    fn copies(rt: HostRuntime) -> Result<(), Fail> {
-        let place = Place {
-            file: 0,
-            line: 1,
-            col: 1,
-        };
-        let name = Word::from_slice(rt.alloc(), b"i")?;
-        let binder = Binder { place, name }.copy(rt.alloc())?;
-        assert_eq!(rt; binder.name.as_slice(), b"i".as_slice());
-        let mut links = Vec::new(rt.alloc());
-        let link = Link {
-            operator: Operator::Minus,
-            place,
-            operand: Expr::Truth(place, true),
-        };
-        links.push(link).map_err(AllocError::from)?;
-        let first = Box::new(rt.alloc(), Expr::Number(place, 7)).map_err(AllocError::from)?;
-        let sum = Expr::Sum(first, links);
-        let copied = sum.copy(rt.alloc())?;
-        assert_eq!(rt; shape(&copied), Some((7, 1)));
-        Ok(())
-    }
 }

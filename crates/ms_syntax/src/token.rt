@@ -1,6 +1,17 @@
-ghost use Rattle.std.specs.Prelude.{◌≡◌, IfOk};
+//! Words, tokens and places.
+
+ghost use Rattle.std.specs.Prelude.{◌≡◌, ◌↔◌, IfOk, IsTrue, Some, nat_eq, refl};
+ghost use Rattle.std.specs.Cmp.{partial_equiv_from_equiv};
+ghost use Rattle.std.specs.Cmp.Lexicographic.{nat_list_cmp_total, nat_list_eq_equiv, pointwise};
+ghost use Rattle.std.specs.Cmp.Lexicographic.{slice_cmp, texts_po, texts_ties};
+ghost use Rattle.std.specs.Cmp.Rules.{hashing};
+ghost use Rattle.std.specs.Hash as fed;
+ghost use Rattle.std.specs.Ordering.{nat_cmp};
+ghost use Rattle.std.proofs.Common.{rules};
 
 use std::alloc::{AllocError, Global};
+use std::cmp::Ordering;
+use std::hash::{Hash, Hasher};
 use std::marker::Model;
 
 /// The bytes of a name, or of a text after its escapes are read. Contracts see their list.
@@ -56,11 +67,62 @@ impl Word {
     }
 }
 
-/// Where a token begins: `file` is 0 for the model, 1 for the data and 2 for the library; `line` counts
-/// from 1 by line feeds, and `col` from 1 in bytes.
+// Words are equal where their bytes are, and stand in the order of their bytes.
+impl PartialEq for Word {
+    ghost eq = { pointwise nat_eq };
+
+    ghost laws = { partial_equiv_from_equiv nat_list_eq_equiv };
+
+    fn eq(&self, other: &Word) -> bool {
+        self.bytes == other.bytes
+    }
+}
+
+impl Eq for Word {
+    ghost laws = { nat_list_eq_equiv };
+}
+
+impl PartialOrd for Word {
+    ghost partial_cmp = { λ a b. Some (slice_cmp nat_cmp a b) };
+
+    ghost laws = { texts_po };
+
+    fn partial_cmp(&self, other: &Word) -> Option<Ordering> {
+        Some(self.cmp(other))
+    }
+}
+
+impl Ord for Word {
+    ghost cmp = { slice_cmp nat_cmp };
+
+    ghost total = { nat_list_cmp_total };
+
+    ghost matches_partial_cmp = { λ a b. refl };
+
+    ghost matches_eq = { texts_ties };
+
+    fn cmp(&self, other: &Word) -> Ordering {
+        self.bytes.cmp(&other.bytes)
+    }
+}
+
+impl Hash for Word {
+    ghost hash_input = { λ w. fed.slice fed.u8 w };
+
+    ghost respects_eq = { Prim.search (hashing, rules) };
+
+    fn hash<H: Hasher>(&self, state: &mut H) {
+        self.bytes.hash(state);
+    }
+}
+
+/// Which text a place is in: 0 the model, 1 the data, 2 the library.
+pub type FileNo = u8;
+
+/// Where a token begins: `line` counts from 1 by line feeds, and `col` from 1 in bytes.
 #[derive(Clone, Copy, Debug, PartialEq, Eq)]
 pub struct Place {
-    pub file: u8,
+    pub file: FileNo,
     pub line: u32,
     pub col: u32,
 }
@@ -176,6 +238,32 @@ pub enum Token {
     Number(u64),
     Keyword(Keyword),
     Symbol(Symbol),
+}
+
+impl Token {
+    ghost use Rattle.ms_syntax.specs.Token as spec;
+
+    /// Whether it is this mark or operator.
+    pub fn is_symbol(&self, symbol: Symbol) -> bool
+        ensures value { result ≡ spec.is_symbol symbol self.now }
+        ensures means { IsTrue result ↔ (self.now ≡ Token.Symbol symbol) }
+    {
+        match self {
+            Token::Symbol(other) => *other == symbol,
+            _ => false,
+        }
+    }
+
+    /// Whether it is this keyword.
+    pub fn is_keyword(&self, keyword: Keyword) -> bool
+        ensures value { result ≡ spec.is_keyword keyword self.now }
+        ensures means { IsTrue result ↔ (self.now ≡ Token.Keyword keyword) }
+    {
+        match self {
+            Token::Keyword(other) => *other == keyword,
+            _ => false,
+        }
+    }
 }
 
 /// A token with the bytes that it stands on: from `start` up to but not at `end`.

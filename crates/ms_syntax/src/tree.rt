@@ -1,8 +1,13 @@
-ghost use Rattle.std.specs.Prelude.{◌≡◌, option_map};
-ghost use Rattle.ms_syntax.specs.Tree as tree;
-ghost use Rattle.ms_syntax.specs.Tree.{ex_view, binder_view, maybe_view, link_view, one_link};
-ghost use Rattle.ms_syntax.specs.Gathering.{part_of};
+//! Trees.
 
+ghost use Rattle.std.specs.Prelude.{◌≡◌, Some, option_map};
+ghost use Rattle.ms_syntax.specs.Tree as tree;
+ghost use Rattle.ms_syntax.specs.Tree.{binder_view, ex_view, generator_view, link_view, maybe_view};
+ghost use Rattle.ms_syntax.specs.Tree.{of_membership, one_link};
+ghost use Rattle.ms_syntax.specs.Gathering.{part_of};
+ghost use Rattle.ms_syntax.specs.Grouping.{first_place};
+
+use crate::names::Binders;
 use crate::token::{Place, Word};
 
 /// What stands between two operands.
@@ -72,9 +77,9 @@ pub struct Binder {
     pub name: Word,
 }
 
-/// Expressions. The levels of operators come first, the loosest of them first; each is a first operand and the
-/// operators that follow it, each with its place and its operand. The place of any other node is that of its
-/// first token.
+/// Expressions. The levels of operators come first, the loosest of them first; each is a first
+/// operand and the operators that follow it, each with its place and its operand. Any other node
+/// has the place of its first token.
 #[cycle(ast)]
 pub enum Expr {
     /// `let { a; b } in c`: the declarations, whether a last `;` is there, and the body.
@@ -125,8 +130,9 @@ pub enum Expr {
     If(Place, Box<Expr>, Box<Expr>, Vec<Arm>, Box<Expr>),
 }
 
-// Written out, so that code that lets go of an expression has one call there. A derived one would put a match over
-// each variant at each such place of every crate, also where a part or a declaration that holds an expression goes.
+// Written out, as for the other large types below, so that code that lets go of an expression has
+// one call there. A derived one would put a match over each variant at each such place of every
+// crate, also where a part or a declaration that holds an expression goes.
 impl Drop for Expr {
     #[cycle(free)]
     fn drop(self) {
@@ -163,7 +169,8 @@ impl Drop for Expr {
 impl Expr {
     /// A name that is said to be in a set, with the set.
     fn member(self, link: Link) -> Option<(Binder, Option<Expr>)>
-        ensures { option_map (λ r. (binder_view r.0, maybe_view r.1)) result ≡ part_of (tree.chain 6 (ex_view self) (one_link (link_view link))) }
+        ensures { option_map (λ r. (binder_view r.0, maybe_view r.1)) result
+            ≡ part_of (tree.chain of_membership (ex_view self) (one_link (link_view link))) }
     {
         match self {
             Expr::Name(place, name) => match link.operator {
@@ -176,7 +183,8 @@ impl Expr {
 
     /// The name that an expression adds to generators, and the set with which it ends one.
     pub fn part(self) -> Option<(Binder, Option<Expr>)>
-        ensures { option_map (λ r. (binder_view r.0, maybe_view r.1)) result ≡ part_of (ex_view self) }
+        ensures { option_map (λ r. (binder_view r.0, maybe_view r.1)) result
+            ≡ part_of (ex_view self) }
     {
         match self {
             Expr::Name(place, name) => Some((Binder { place, name }, None)),
@@ -230,13 +238,20 @@ pub struct Generators {
 #[cycle(ast)]
 #[derive(Drop)]
 pub struct Generator {
-    pub names: Vec<Binder>,
+    pub names: Binders,
     pub set: Expr,
+}
+
+impl Generator {
+    pub fn place(&self) -> Place
+        ensures { Some result ≡ first_place (generator_view self.now).0 }
+    {
+        self.names.place()
+    }
 }
 
 /// `kind: name :: notes = value`
 #[cycle(ast)]
-#[derive(Drop)]
 pub struct Declaration {
     pub place: Place,
     pub kind: Kind,
@@ -245,17 +260,40 @@ pub struct Declaration {
     pub value: Option<Expr>,
 }
 
-/// What a declaration says of its name. `indices` has one or two index sets for an array, and else none.
+impl Drop for Declaration {
+    #[cycle(free)]
+    fn drop(self) {
+        let Declaration {
+            place: _,
+            kind: _,
+            name: _,
+            notes: _,
+            value: _,
+        } = self;
+    }
+}
+
+/// What a declaration says of its name. `indices` has one or two index sets for an array, and else
+/// none.
 #[cycle(ast)]
-#[derive(Drop)]
 pub struct Kind {
     pub indices: Vec<Index>,
     pub mode: Mode,
     pub base: Base,
 }
 
+impl Drop for Kind {
+    #[cycle(free)]
+    fn drop(self) {
+        let Kind {
+            indices: _,
+            mode: _,
+            base: _,
+        } = self;
+    }
+}
+
 #[cycle(ast)]
-#[derive(Drop)]
 pub enum Base {
     Bool,
     Int,
@@ -267,6 +305,21 @@ pub enum Base {
     Within(Expr),
 }
 
+impl Drop for Base {
+    #[cycle(free)]
+    fn drop(self) {
+        match self {
+            Base::Bool => {}
+            Base::Int => {}
+            Base::String => {}
+            Base::Ann => {}
+            Base::SetOfInt => {}
+            Base::SetOf(_) => {}
+            Base::Within(_) => {}
+        }
+    }
+}
+
 /// An index set of an array.
 #[cycle(ast)]
 #[derive(Drop)]
@@ -275,7 +328,8 @@ pub enum Index {
     Over(Expr),
 }
 
-/// `:: name` or `:: name(arguments)`: no arguments where no brackets stand. Its place is that of its `::`.
+/// `:: name` or `:: name(arguments)`: no arguments where no brackets stand. Its place is that of
+/// its `::`.
 #[cycle(ast)]
 #[derive(Drop)]
 pub struct Note {
@@ -302,7 +356,6 @@ pub enum Goal {
 }
 
 /// Items, each with the place of its first token.
-#[derive(Drop)]
 pub enum Item {
     Include(Place, Word),
     Declare(Declaration),
@@ -314,6 +367,22 @@ pub enum Item {
     Output(Place, Expr),
     Predicate(Place, Word, Vec<Parameter>, Expr),
     Function(Place, Kind, Word, Vec<Parameter>, Expr),
+}
+
+impl Drop for Item {
+    fn drop(self) {
+        match self {
+            Item::Include(_, _) => {}
+            Item::Declare(_) => {}
+            Item::Enum(_, _, _) => {}
+            Item::Assign(_, _, _) => {}
+            Item::Constraint(_, _, _) => {}
+            Item::Solve(_, _, _) => {}
+            Item::Output(_, _) => {}
+            Item::Predicate(_, _, _, _) => {}
+            Item::Function(_, _, _, _, _) => {}
+        }
+    }
 }
 
 /// A model or a library.

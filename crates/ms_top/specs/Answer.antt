@@ -2,7 +2,7 @@
 use Rattle.std.specs.Prelude.{◌≡◌, ℕ, ℤ, ◌+◌, ◌-◌, ◌^◌, ◌<◌, ◌≤◌, min, List, [], ◌∷◌, ◌++◌, length, take, slice_get, ◌⊎◌, Option, Some, None, string_bytes}
 use Rattle.std.specs.Prelude.{String}
 use Rattle.std.specs.declared.alloc.Global.{Global}
-use Rattle.ms_base.specs.declared.run.TheConstants.{FILE_LIMIT}
+use Rattle.ms_base.specs.declared.limits.TheConstants.{FILE_LIMIT}
 use Rattle.ms_base.specs.declared.run.Closing.{Closing}
 use Rattle.ms_base.specs.declared.run.Closing.TheVariants.{Plain, Unsatisfiable}
 use Rattle.ms_base.specs.declared.run.Limit.{Limit}

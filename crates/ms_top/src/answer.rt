@@ -18,10 +18,10 @@ use crate::plain::PlainModel;
 use crate::solve::least_solution;
 use crate::status::Fault;
 use crate::text::{UNSATISFIABLE, solution_text};
-use ms_base::{Closing, FileNo};
+use ms_base::Closing;
 use ms_lexer::{LexFault, place_of, tokens};
 use ms_parser::{ParseFault, model};
-use ms_syntax::{LexKind, Place, Spanned, Tree};
+use ms_syntax::{FileNo, LexKind, Place, Spanned, Tree};
 use std::alloc::{AllocError, AllocFailed, Global};
 
 /// The number of the model's text.

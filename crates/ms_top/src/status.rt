@@ -1,8 +1,8 @@
 ghost use Rattle.std.specs.Prelude.{◌≡◌};
 ghost use Rattle.ms_top.specs.Exit.{exit_code};
 
-use ms_base::{Closing, FileNo, Limit};
-use ms_syntax::{LexKind, Place};
+use ms_base::{Closing, Limit};
+use ms_syntax::{FileNo, LexKind, Place};
 
 /// Why an input is not accepted.
 #[derive(Clone, Copy, Debug, PartialEq, Eq)]
