@@ -5,8 +5,8 @@ use thiserror::Error;
 /// The first thing that cannot be taken, with its byte, counted from 0; or no memory.
 #[derive(Clone, Copy, Debug, PartialEq, Eq, Error)]
 pub enum LexFault {
-    /// A byte that no token can take; also a letter or `_` directly behind a number, a backslash in a text
-    /// that begins no escape, and a byte that a text may not hold.
+    /// A byte that no token can take; also a letter or `_` directly behind a number, a backslash
+    /// in a text that begins no escape, and a byte that a text may not hold.
     #[error("byte {0} fits no token")]
     BadByte(usize),
     /// The opening quote of a text whose line ends first.

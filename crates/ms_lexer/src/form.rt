@@ -20,7 +20,8 @@ fn opens_comment(b: u8, c: u8) -> bool
     b == b'/' && c == b'*'
 }
 
-/// What stands at the front of the bytes, with how many bytes it has; white space and comments are no token.
+/// What stands at the front of the bytes, with how many bytes it has; white space and comments are
+/// no token.
 #[tactic(auto, unfolding(ms_syntax::specs::Form::form))]
 pub fn form(alloc: Global, bytes: &[u8]) -> Result<(Option<Token>, usize), FormError>
     requires more { IsMore bytes.now }

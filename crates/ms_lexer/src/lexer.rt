@@ -2,11 +2,13 @@
 
 ghost use Rattle.std.specs.Prelude.{◌≤◌, ◌<◌, ◌^◌, ℕ, length, List, IfOk, IfErr};
 ghost use Rattle.ms_syntax.specs.Cut.{HasTokens, HasFault};
-ghost use Rattle.ms_lexer.specs.Reading.{IsWithin, FaultIs, FaultAt, IsAmong, GivesTokens, GivesFault};
+ghost use Rattle.ms_lexer.specs.Reading.{FaultAt, FaultIs, GivesFault, GivesTokens};
+ghost use Rattle.ms_lexer.specs.Reading.{IsAmong, IsWithin};
 
 use crate::fault::{FormError, LexFault};
 use crate::form::form;
 use crate::place::place_after;
+use ms_base::FILE_LIMIT;
 use ms_syntax::{LexKind, Place, Spanned};
 use std::alloc::Global;
 
@@ -26,7 +28,7 @@ fn fault_at(e: FormError, start: usize) -> LexFault
 }
 
 fn cut(alloc: Global, file: u8, bytes: &[u8]) -> Result<Vec<Spanned>, LexFault>
-    requires { length bytes.now ≤ 1048576 }
+    requires { length bytes.now ≤ FILE_LIMIT }
     ensures ok { IfOk result (λ v. HasTokens file bytes.now v.items) }
     ensures fault { IfErr result (λ e. FaultIs bytes.now e) }
 {
@@ -61,7 +63,7 @@ fn cut(alloc: Global, file: u8, bytes: &[u8]) -> Result<Vec<Spanned>, LexFault>
 
 /// The tokens of a file's bytes, each with the bytes that it stands on and its place.
 pub fn tokens(alloc: Global, file: u8, bytes: &[u8]) -> Result<Vec<Spanned>, LexFault>
-    requires { length bytes.now ≤ 1048576 }
+    requires { length bytes.now ≤ FILE_LIMIT }
     // What is returned are the bytes' tokens.
     ensures ok { IfOk result (λ v. HasTokens file bytes.now v.items) }
     // A fault is the first thing that cannot be taken.
@@ -71,7 +73,8 @@ pub fn tokens(alloc: Global, file: u8, bytes: &[u8]) -> Result<Vec<Spanned>, Lex
     // Where the bytes have tokens, these are the answer, unless memory fails.
     ensures accepts { (ts : List Spanned) → HasTokens file bytes.now ts → GivesTokens ts result }
     // Where the bytes have a first fault, that is the answer, unless memory fails.
-    ensures refuses { (kind : LexKind) (k : ℕ) → HasFault bytes.now kind k → GivesFault kind k result }
+    ensures refuses { (kind : LexKind) (k : ℕ)
+        → HasFault bytes.now kind k → GivesFault kind k result }
 {
     cut(alloc, file, bytes)
 }

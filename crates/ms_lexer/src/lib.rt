@@ -1,13 +1,13 @@
 //! Tokens from the bytes of a text.
 //!
-//! [`tokens`] cuts the bytes from the left into white space, comments and tokens, each time at the longest
-//! form. What the longest form is, which tokens bytes have and which fault is their first stand as definitions
-//! in the crate of the tokens, and the contract cites them.
+//! [`tokens`] cuts the bytes from the left into white space, comments and tokens, each time at the
+//! longest form. What the longest form is, which tokens bytes have and which fault is their first
+//! stand as definitions in the crate of the tokens, and the contract cites them.
 //!
-//! Promised: the answer is the one token list that the bytes have, or the first thing that cannot be taken,
-//! with its kind and byte; only want of memory may take its place. [`place_of`] turns the byte of a fault into
-//! the line and the column that a user reads.
-//! Not promised by a contract: that the time is linear in the bytes, and that each text is copied once.
+//! Promised: the answer is the one token list that the bytes have, or the first thing that cannot
+//! be taken, with its kind and byte; only want of memory may take its place. [`place_of`] turns
+//! the byte of a fault into the line and the column that a user reads. Not promised by a contract:
+//! that the time is linear in the bytes, and that each text is copied once.
 #![tactic(auto)]
 
 mod bytes;
@@ -17,8 +17,6 @@ mod lexer;
 mod number;
 mod place;
 mod symbol;
-#[cfg(test)]
-mod tests;
 mod text;
 mod word;
 

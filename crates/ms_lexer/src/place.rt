@@ -3,6 +3,7 @@
 ghost use Rattle.std.specs.Prelude.{◌≡◌, ◌≤◌, ◌<◌, ◌^◌, ◌+◌, length, fold, take};
 ghost use Rattle.ms_syntax.specs.Cut.{next_place, place_behind};
 
+use ms_base::FILE_LIMIT;
 use ms_syntax::Place;
 
 /// The place behind the bytes, where the first of them is at `place`.
@@ -29,7 +30,7 @@ pub fn place_after(place: Place, bytes: &[u8]) -> Place
 /// The place of the byte `at` of a file, or behind its end where `at` is the length.
 pub fn place_of(file: u8, bytes: &[u8], at: usize) -> Place
     requires within { at ≤ length bytes.now }
-    requires short { length bytes.now ≤ 1048576 }
+    requires short { length bytes.now ≤ FILE_LIMIT }
     ensures { result ≡ place_behind file (take at bytes.now) }
 {
     let first = Place {

@@ -7,7 +7,8 @@ ghost use Rattle.ms_lexer.specs.Reading.{Shows, IsWithin, token_of, symbol_form}
 use crate::fault::FormError;
 use ms_syntax::{LexKind, Symbol, Token};
 
-/// The longest symbol that begins with the byte `b`, before `c` and `d`, with how many bytes it has.
+/// The longest symbol that begins with the byte `b`, before `c` and `d`, with how many bytes it
+/// has.
 fn symbol(b: u8, c: u8, d: u8) -> Option<(Symbol, usize)>
     ensures form { spec.symbol b c d ≡ symbol_form result }
     ensures small { IfSome result (λ x. (0 < x.1) × (x.1 ≤ 3)) }

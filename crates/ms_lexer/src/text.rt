@@ -1,6 +1,7 @@
 //! Texts and comments.
 
-ghost use Rattle.std.specs.Prelude.{IfOk, IfErr, ◌≡◌, ◌≢◌, IsTrue, ◌≤◌, ◌<◌, ◌+◌, ◌^◌, [], false, length};
+ghost use Rattle.std.specs.Prelude.{◌≡◌, ◌≢◌, ◌≤◌, ◌<◌, ◌+◌, ◌^◌, [], false, length};
+ghost use Rattle.std.specs.Prelude.{IfErr, IfOk, IsTrue};
 ghost use Rattle.ms_syntax.specs.Form as spec;
 ghost use Rattle.ms_lexer.specs.Reading.{Shows, IsWithin, token_of};
 
@@ -27,7 +28,8 @@ fn is_plain(b: u8) -> bool
     b == b'\t' || b >= 0x20 && !(b == 0x7F || b == b'"' || b == b'\\')
 }
 
-/// How many bytes stand before the closing quote, or before the end of the line: room enough for the value.
+/// How many bytes stand before the closing quote, or before the end of the line: room enough for
+/// the value.
 fn room(bytes: &[u8]) -> usize
     ensures { result ≤ length bytes.now }
 {
@@ -104,7 +106,8 @@ pub fn comment(bytes: &[u8]) -> Result<usize, FormError>
 pub fn line_len(bytes: &[u8]) -> usize
     ensures value { result ≡ spec.run spec.is_in_line bytes.now }
     ensures within { result ≤ length bytes.now }
-    ensures some { IsTrue (spec.is_in_line (spec.byte_at bytes.now 0)) → bytes.now ≢ [] → 0 < result }
+    ensures some { IsTrue (spec.is_in_line (spec.byte_at bytes.now 0)) → bytes.now ≢ []
+        → 0 < result }
 {
     bytes.iter().take_while(|b| **b != b'\n').count()
 }

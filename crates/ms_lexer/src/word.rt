@@ -15,7 +15,8 @@ use std::alloc::Global;
 fn name_len(bytes: &[u8]) -> usize
     ensures value { result ≡ spec.run spec.is_name_byte bytes.now }
     ensures within { result ≤ length bytes.now }
-    ensures some { IsTrue (spec.is_name_byte (spec.byte_at bytes.now 0)) → bytes.now ≢ [] → 0 < result }
+    ensures some { IsTrue (spec.is_name_byte (spec.byte_at bytes.now 0)) → bytes.now ≢ []
+        → 0 < result }
 {
     bytes.iter().take_while(|b| is_name_byte(**b)).count()
 }

@@ -1,9 +1,13 @@
-use crate::{LexFault, place_of, tokens};
+//! Bytes and their tokens, places and faults.
+
+use ms_base::FILE_LIMIT;
+use ms_lexer::{LexFault, place_of, tokens};
 use ms_syntax::Token;
 use std::alloc::{AllocError, Global};
 use std::test::Fail;
 
-/// A name in backquotes, the bytes of a text, the digits of a number, a keyword or a symbol by its own name.
+/// A name in backquotes, the bytes of a text, the digits of a number, a keyword or a symbol by its own
+/// name.
 fn shown(alloc: Global, token: &Token) -> Result<String, AllocError> {
     match token {
         Token::Name(word) => {
@@ -67,7 +71,7 @@ fn cuts_at_the_longest_form(rt: HostRuntime) -> Result<(), Fail> {
         (b"% a\rb\nc", "`c` "),
     ];
     for (text, want) in cases {
-        assert!(rt; text.len() <= 1048576);
+        assert!(rt; text.len() <= FILE_LIMIT);
         let mut line = String::new(rt.alloc());
         for spanned in tokens(rt.alloc(), 0, text)?.iter() {
             let token = shown(rt.alloc(), &spanned.token)?;
@@ -134,7 +138,7 @@ fn names_the_first_fault(rt: HostRuntime) -> Result<(), Fail> {
         (b"/* */ */ \x00", LexFault::BadByte(7), 1, 8),
     ];
     for (text, want, line, col) in cases {
-        assert!(rt; text.len() <= 1048576);
+        assert!(rt; text.len() <= FILE_LIMIT);
         let Err(fault) = tokens(rt.alloc(), 1, text) else {
             return Err(Fail::from("tokens where a fault stands"));
         };

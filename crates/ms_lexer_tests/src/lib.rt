@@ -1,0 +1,11 @@
+//! Texts and their tokens, and the small types below them, as the tests of `ms_base`, `ms_syntax`
+//! and `ms_lexer`.
+//!
+//! The tests stand in a crate of their own, so that those three are proved once. [`rows`] has
+//! worked rows of the definitions themselves: what they give for tokens and trees that are written
+//! out, proved and not run.
+#![tactic(auto)]
+
+pub mod rows;
+#[cfg(test)]
+mod tests;
