@@ -1,8 +1,8 @@
 //! Tokens of MiniZinc texts with their places, and the grammar: which tokens a tree is written as.
 //!
-//! The root of all that is said of a text. Of bytes: `specs/` has the longest form that stands at
-//! the front of some bytes (`Form`) and the relation between bytes and their list of tokens, and
-//! their first fault (`Cut`). Beside them, told without the cut: how each token may be written
+//! Of bytes: `specs/` has the longest form that stands at the front of some bytes (`Form`, maximal
+//! munch), and the relation between bytes and their list of tokens, and their first fault (`Cut`).
+//! Beside them, as relations that do not know that function: how each token may be written
 //! (`Spelling`), what white space and comments are (`Blank`), and what stands where nothing can be
 //! taken (`Failing`). The laws tie the two. What the function `form` finds is what the rules say
 //! ([`longest_form`]), and the rules decide what it finds ([`decided_form`]): a blank of one byte
@@ -15,11 +15,11 @@
 //! alone what the first token is that cannot stand at its place (`SyntaxAt`: the tokens before it
 //! begin a text of the language, and with it they do not) or that nests too deep (`DeepAt`).
 //! Tokens have one such answer at most ([`one_answer`]). `Grouping` says how the operators of a
-//! chain group.
+//! chain group, and where each node stands ([`Expr::place`]).
 //!
-//! Contracts see a [`Word`] as its bytes and a tree through a view as plain data (`Tree`), which
-//! gives all that is written of it; the other types are plain data. A copy of a tree is one with
-//! the same view.
+//! Contracts see a [`Word`] as its bytes, the names of a generator as their list, and a tree
+//! through a view as plain data (`Tree`), which gives all that is written of it; the other types
+//! are plain data. A copy of a tree is one with the same view.
 #![tactic(auto)]
 
 mod copies;

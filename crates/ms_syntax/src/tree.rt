@@ -130,9 +130,9 @@ pub enum Expr {
     If(Place, Box<Expr>, Box<Expr>, Vec<Arm>, Box<Expr>),
 }
 
-// Written out, as for the other large types below, so that code that lets go of an expression has
-// one call there. A derived one would put a match over each variant at each such place of every
-// crate, also where a part or a declaration that holds an expression goes.
+// Written out, as for the other large types below, so that code that drops an expression has one
+// call there. A derived one would put a match over each variant at each such place of every crate,
+// also where a part or a declaration that holds an expression is dropped.
 impl Drop for Expr {
     #[cycle(free)]
     fn drop(self) {
