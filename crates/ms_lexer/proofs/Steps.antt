@@ -16,9 +16,8 @@ use Rattle.ms_syntax.specs.declared.token.LexKind.{LexKind}
 use Rattle.ms_syntax.specs.declared.token.LexKind.TheVariants as kind
 use Rattle.ms_syntax.specs.Form.{Form, blank, token, form}
 use Rattle.ms_lexer.specs.Reading.{piece_of, piece, Shows, FaultIs, FaultAt, IsFault, IsAmong, GivesTokens, GivesFault}
-use Rattle.ms_syntax.proofs.Exists.{fault_within}
 use Rattle.ms_syntax.specs.Cut.{Cuts, IsMore, IsPiece, size, spanned, next_place, place_behind, HasTokens, HasFault}
-use Rattle.ms_syntax.proofs.Cuts.{cuts_more, spanned_more, sizes, sizes_more, one_list, none_beside, one_fault}
+use Rattle.ms_syntax.proofs.SharedCuts.{cuts_more, spanned_more, sizes, sizes_more, one_list, none_beside, one_fault, fault_within}
 
 pub more_of : (bytes : List ℕ) (start : ℕ) → start < length bytes → IsMore (drop start bytes)
 more_of [] start h = absurd (omega arith)

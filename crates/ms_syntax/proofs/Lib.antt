@@ -7,6 +7,9 @@ pub mod Keywords
 pub mod OneAnswer
 pub mod Placed
 pub mod Runs
+pub mod SharedAnswers
+pub mod SharedCuts
+pub mod SharedForms
 pub mod Spelled
 pub mod Symbols
 pub mod Texts

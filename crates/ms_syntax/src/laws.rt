@@ -1,7 +1,7 @@
 //! What holds of bytes and their tokens whatever reads them. Each function does nothing; its
 //! contract is the law.
 
-ghost use Rattle.std.specs.Prelude.{◌≡◌, ◌⊎◌, ℕ, ◌<◌, ◌≤◌, List, length, take, map, All};
+ghost use Rattle.std.specs.Prelude.{◌≡◌, ◌==◌, ◌⊎◌, ℕ, ◌<◌, ◌≤◌, All, List, false, length, map, take};
 ghost use Rattle.ms_syntax.specs.Blank.{IsBlank};
 ghost use Rattle.ms_syntax.specs.Failing.{Fails};
 ghost use Rattle.ms_syntax.specs.Form.{blank, token, fault, form};
@@ -9,9 +9,12 @@ ghost use Rattle.ms_syntax.specs.Cut.{HasTokens, HasFault};
 ghost use Rattle.ms_syntax.specs.Spelling.{AllSpell, IsNumber, IsWellFormed, Spells};
 ghost use Rattle.ms_syntax.specs.Spelling.{spaced, written};
 ghost use Rattle.ms_syntax.specs.Grammar.{Writes, WritesTree, WritesPairs};
+ghost use Rattle.ms_syntax.specs.Grouping.{followed_by, place_of};
 ghost use Rattle.ms_syntax.specs.OneAnswer.{OneAnswer};
+ghost use Rattle.ms_syntax.specs.Tree.{Ex, Links, chain, link, of_concat};
 
-use crate::token::{LexKind, Spanned, Token};
+use crate::token::{LexKind, Place, Spanned, Token};
+use crate::tree::Operator;
 
 /// Bytes have at most one token list, none where they have a fault, and at most one first fault.
 pub fn one_reading()
@@ -88,4 +91,12 @@ pub fn one_answer()
     ensures expressions { OneAnswer Writes }
     ensures models { OneAnswer WritesTree }
     ensures assignments { OneAnswer WritesPairs }
+{}
+
+/// Operators that group to the left stand at the last one, and those of `++` at the first.
+pub fn chain_places()
+    ensures last { (n : ℕ) (first : Ex) (links : Links) (op : Operator) (p : Place) (e : Ex)
+        → (n == of_concat) ≡ false → place_of (chain n first (followed_by links op p e)) ≡ p }
+    ensures first { (first : Ex) (op : Operator) (p : Place) (e : Ex) (more : Links)
+        → place_of (chain of_concat first (link op p e more)) ≡ p }
 {}

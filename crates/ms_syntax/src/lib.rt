@@ -29,7 +29,9 @@ mod place;
 mod token;
 mod tree;
 
-pub use laws::{decided_form, longest_form, one_answer, one_reading, some_reading, spaced_tokens};
+pub use laws::{
+    chain_places, decided_form, longest_form, one_answer, one_reading, some_reading, spaced_tokens,
+};
 pub use names::Binders;
 pub use token::{FileNo, Keyword, LexKind, Place, Spanned, Symbol, Token, Word};
 pub use tree::{

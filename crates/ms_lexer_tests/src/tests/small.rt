@@ -3,8 +3,8 @@
 use ms_base::{Bytes, Name, Point};
 use ms_syntax::{
     Base, Binder, Binders, Declaration, Expr, Generator, Item, Keyword, Kind, Link, Mode, Operator,
-    Place, Symbol, Token, Word, decided_form, longest_form, one_answer, one_reading, some_reading,
-    spaced_tokens,
+    Place, Symbol, Token, Word, chain_places, decided_form, longest_form, one_answer, one_reading,
+    some_reading, spaced_tokens,
 };
 use std::alloc::{AllocError, Global};
 use std::cmp::Ordering;
@@ -46,6 +46,7 @@ fn words_and_tokens(rt: HostRuntime) -> Result<(), Fail> {
     decided_form();
     spaced_tokens();
     one_answer();
+    chain_places();
     Ok(())
 }
 

@@ -1,7 +1,7 @@
 use Rattle.std.proofs.Common.{◌≡◌, ◌+◌, ◌-◌, ◌≤◌, ◌<◌, List, length, take, drop}
 use Rattle.ms_syntax.specs.Form.{Form}
 use Rattle.ms_syntax.specs.Cut.{Cuts, spanned, place_behind}
-use Rattle.ms_syntax.proofs.Cuts.{sizes}
+use Rattle.ms_syntax.proofs.SharedCuts.{sizes}
 use Rattle.ms_lexer.proofs.lexer.cut.Given as goal
 
 abbrev pub invariant-loop-start : goal.invariant-loop-start
