@@ -6,8 +6,8 @@ use denote.Ref.{MutBor}
 use Rattle.ms_syntax.specs.declared.tree.Expr.{Expr}
 use Rattle.ms_syntax.specs.Tree.{Ex}
 use Rattle.ms_syntax.specs.Grammar.{Tokens}
-use Rattle.ms_expressions.specs.declared.fault.ParseFault.{ParseFault}
-use Rattle.ms_expressions.specs.declared.fault.ParseFault.TheVariants.{Syntax, Deep, Memory}
+use Rattle.ms_expressions.specs.declared.stop.Stop.{Stop}
+use Rattle.ms_expressions.specs.declared.stop.Stop.TheVariants.{Syntax, Deep, Memory}
 use Rattle.ms_expressions.specs.declared.reach.Reach.{Reach}
 use Rattle.ms_expressions.specs.Reading.{Out, ok, bad, deep, deeper, Parser, and_then}
 use Rattle.ms_expressions.specs.Reads.{Nests, Fails}
@@ -37,7 +37,7 @@ pub locals_inside : (d k : ℕ) (ts : Tokens) → suc k ≡ d → locals (pred d
 locals_inside d k ts h =
     ap (λ a. locals (pred a) (under a) (inmost a) ts) (sym h) ∙ ap (λ p. locals k (under (suc k)) p ts) (inmost_is (suc k) ∙ nested_one k)
 
-pub nests_less : {d k : ℕ} {pre : Global → MutBor Tokens → ℕ → Reach → Type 0} {post : Global → MutBor Tokens → ℕ → Reach → Result Expr ParseFault → MutBor Tokens → Type 0} → k ≤ d → Nests d pre post → Nests k pre post
+pub nests_less : {d k : ℕ} {pre : Global → MutBor Tokens → ℕ → Reach → Type 0} {post : Global → MutBor Tokens → ℕ → Reach → Result Expr Stop → MutBor Tokens → Type 0} → k ≤ d → Nests d pre post → Nests k pre post
 nests_less h n = record { callable = λ alloc old m c l. n.callable alloc old m c (omega (arith, l, h)); reads = n.reads }
 
 -- ---- levels one after the other
@@ -52,32 +52,32 @@ unfolding tier
 tier_none operand ts = refl
 
 -- a fault of a level is one of the levels above it
-one_above : (n : ℕ) (operand : Parser Ex) (ts : Tokens) (fault : ParseFault) → Fails (tier n operand ts) fault → Fails (tier (suc n) operand ts) fault
+one_above : (n : ℕ) (operand : Parser Ex) (ts : Tokens) (fault : Stop) → Fails (tier n operand ts) fault → Fails (tier (suc n) operand ts) fault
 unfolding tier
 one_above n operand ts Memory e = tt
 one_above n operand ts (Syntax m) e = ap (λ o. and_then o (behind n (tier n operand))) e
 one_above n operand ts (Deep m) e = ap (λ o. and_then o (behind n (tier n operand))) e
 
-fault_above : (h k : ℕ) (operand : Parser Ex) (ts : Tokens) (fault : ParseFault) → Fails (tier h operand ts) fault → Fails (tier (k + h) operand ts) fault
+fault_above : (h k : ℕ) (operand : Parser Ex) (ts : Tokens) (fault : Stop) → Fails (tier h operand ts) fault → Fails (tier (k + h) operand ts) fault
 fault_above h zero operand ts fault e = subst (λ n. Fails (tier n operand ts) fault) (omega arith) e
 fault_above h (suc k) operand ts fault e = subst (λ n. Fails (tier n operand ts) fault) (omega arith) (one_above (k + h) operand ts fault (fault_above h k operand ts fault e))
 
-pub tier_fails : (h top : ℕ) (operand : Parser Ex) (ts r : Tokens) (first : Ex) (fault : ParseFault) → h < top → tier h operand ts ≡ ok first r → Fails (behind h (tier h operand) first r) fault → Fails (tier top operand ts) fault
+pub tier_fails : (h top : ℕ) (operand : Parser Ex) (ts r : Tokens) (first : Ex) (fault : Stop) → h < top → tier h operand ts ≡ ok first r → Fails (behind h (tier h operand) first r) fault → Fails (tier top operand ts) fault
 tier_fails h top operand ts r first fault less e g =
     let up : (top - suc h) + suc h ≡ top = omega (arith, less) in
     subst (λ n. Fails (tier n operand ts) fault) up (fault_above (suc h) (top - suc h) operand ts fault (moved fault g))
   where
-    moved : (fault : ParseFault) → Fails (behind h (tier h operand) first r) fault → Fails (tier (suc h) operand ts) fault
+    moved : (fault : Stop) → Fails (behind h (tier h operand) first r) fault → Fails (tier (suc h) operand ts) fault
     moved Memory g = tt
     moved (Syntax m) g = tier_next h operand ts r first e ∙ g
     moved (Deep m) g = tier_next h operand ts r first e ∙ g
 
-pub operand_fails : (top : ℕ) (operand : Parser Ex) (ts : Tokens) (fault : ParseFault) → Fails (operand ts) fault → Fails (tier top operand ts) fault
+pub operand_fails : (top : ℕ) (operand : Parser Ex) (ts : Tokens) (fault : Stop) → Fails (operand ts) fault → Fails (tier top operand ts) fault
 operand_fails top operand ts fault g =
     let up : top + 0 ≡ top = omega arith in
     subst (λ n. Fails (tier n operand ts) fault) up (fault_above 0 top operand ts fault (moved fault g))
   where
-    moved : (fault : ParseFault) → Fails (operand ts) fault → Fails (tier 0 operand ts) fault
+    moved : (fault : Stop) → Fails (operand ts) fault → Fails (tier 0 operand ts) fault
     moved Memory g = tt
     moved (Syntax m) g = tier_none operand ts ∙ g
     moved (Deep m) g = tier_none operand ts ∙ g

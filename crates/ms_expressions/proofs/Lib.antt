@@ -1,4 +1,5 @@
 pub mod Loops
+pub mod Separated
 pub mod Turns
 pub mod Depth
 pub mod Kept

@@ -1,20 +1,14 @@
 -- A loop that reads as often as a token comes, after some turns.
 use Rattle.std.proofs.Common.{◌≡◌, ℕ, suc, zero, ◌+◌, ◌-◌, ◌<◌, ◌≤◌, arith, List, [], ◌∷◌, ◌++◌, Option, Some, None, Bool, true, false, refl, sym, ap, ◌∙◌, append_assoc}
 use Rattle.std.specs.Prelude.{is_some, if◌then◌else◌}
-use Rattle.ms_expressions.specs.declared.fault.ParseFault.{ParseFault}
-use Rattle.ms_expressions.specs.declared.fault.ParseFault.TheVariants.{Syntax, Deep, Memory}
+use Rattle.ms_expressions.specs.declared.stop.Stop.{Stop}
+use Rattle.ms_expressions.specs.declared.stop.Stop.TheVariants.{Syntax, Deep, Memory}
 use Rattle.ms_expressions.specs.Reads.{Fails}
 use Rattle.std.proofs.lemmas.List.{append-nil}
 use Rattle.ms_syntax.specs.declared.token.Token.{Token}
 use Rattle.ms_syntax.specs.declared.token.Spanned.{Spanned}
 use Rattle.ms_syntax.specs.Grammar.{Tokens}
-use Rattle.ms_expressions.specs.Reading.{Out, ok, bad, deep, Parser, and_then, ◌>>=◌, pure, pick, front, after, many_to}
-
--- the values that were found, before those of the outcome
-abbrev pub grown : {A : Type 0} → List A → Out (List A) → Out (List A)
-grown found (ok xs r) = ok (found ++ xs) r
-grown found (bad n) = bad n
-grown found (deep n) = deep n
+use Rattle.ms_expressions.specs.Reading.{Out, ok, bad, deep, Parser, and_then, ◌>>=◌, pure, pick, front, after, many_to, grown}
 
 pub grown_none : {A : Type 0} (o : Out (List A)) → grown [] o ≡ o
 grown_none (ok xs r) = refl
@@ -26,7 +20,7 @@ grown_twice a b (ok xs r) = ap (λ v. ok v r) (sym (append_assoc a b xs))
 grown_twice a b (bad n) = refl
 grown_twice a b (deep n) = refl
 
-then_grown : {A : Type 0} (x : A) (o : Out (List A)) → and_then o (λ xs. pure (x ∷ xs)) ≡ grown (x ∷ []) o
+pub then_grown : {A : Type 0} (x : A) (o : Out (List A)) → and_then o (λ xs. pure (x ∷ xs)) ≡ grown (x ∷ []) o
 then_grown x (ok xs r) = refl
 then_grown x (bad n) = refl
 then_grown x (deep n) = refl
@@ -94,7 +88,7 @@ module _ {A B : Type 0} (f : Token → Option A) (e : Parser B) (end turn : ℕ)
       let at : ts2 ≡ after ts = next ∙ ap (λ v. if v then after ts else ts) h in
       sym so_far ∙ ap (λ k. grown found (many_to k f (λ a y. e) ts)) one ∙ turn_taken n f (λ a y. e) found ts (e ts2) (sym saw ∙ h) (λ a y t. ap e (sym at))
 
-  pub loop_fails : (fault : ParseFault) → turn < end → b ≡ true → Fails (e ts2) fault → Fails whole fault
+  pub loop_fails : (fault : Stop) → turn < end → b ≡ true → Fails (e ts2) fault → Fails whole fault
   loop_fails Memory lt h g = tt
   loop_fails (Syntax k) lt h g = at_item lt h ∙ bad_first (e ts2) k g
   loop_fails (Deep k) lt h g = at_item lt h ∙ deep_first (e ts2) k g
@@ -131,7 +125,7 @@ module _ {A B : Type 0} (f : Token → Option A) (p : A → Spanned → Parser B
     each_step found2 x r h g =
         ap (λ v. grown v (many_to (end - (turn + 1)) f p r)) g ∙ sym (grown_twice found (x ∷ []) (many_to (end - (turn + 1)) f p r)) ∙ sym (ap (grown found) (then_grown x (many_to (end - (turn + 1)) f p r))) ∙ one_turn (ok x r) h
 
-    pub each_fails : (fault : ParseFault) → Fails (p a y (after ts)) fault → Fails whole fault
+    pub each_fails : (fault : Stop) → Fails (p a y (after ts)) fault → Fails whole fault
     each_fails Memory h = tt
     each_fails (Syntax k) h = sym (one_turn (bad k) h)
     each_fails (Deep k) h = sym (one_turn (deep k) h)

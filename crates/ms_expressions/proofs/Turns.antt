@@ -5,8 +5,8 @@ use Rattle.ms_syntax.specs.declared.token.Symbol.TheVariants as s
 use Rattle.ms_syntax.specs.Tree.{Ex, Decl}
 use Rattle.ms_syntax.specs.Grammar.{Tokens}
 use Rattle.std.proofs.lemmas.List.{append-nil}
-use Rattle.ms_expressions.specs.declared.fault.ParseFault.{ParseFault}
-use Rattle.ms_expressions.specs.declared.fault.ParseFault.TheVariants.{Syntax, Deep, Memory}
+use Rattle.ms_expressions.specs.declared.stop.Stop.{Stop}
+use Rattle.ms_expressions.specs.declared.stop.Stop.TheVariants.{Syntax, Deep, Memory}
 use Rattle.ms_expressions.specs.declared.reach.Reach.{Reach}
 use Rattle.ms_expressions.specs.Reads.{Fails}
 use Rattle.ms_expressions.specs.Reading.{Out, ok, bad, deep, Parser, and_then, ◌>>=◌, pure, pick, front, after, by, must, into, skip}
@@ -47,7 +47,7 @@ module _ {A : Type 0} (more : ℕ → Parser (List A × Bool)) (turn : Parser (T
     pub turn_last : (c : Bool) (r : Tokens) → turn ts ≡ ok (last c) r → whole ≡ ok (found, c) r
     turn_last c r h = sym (at_turn (ok (last c) r) h) ∙ ap (λ v. pure {A = List A × Bool} (v, c) r) (append-nil found)
 
-    pub turn_fails : (fault : ParseFault) → Fails (turn ts) fault → Fails whole fault
+    pub turn_fails : (fault : Stop) → Fails (turn ts) fault → Fails whole fault
     turn_fails Memory h = tt
     turn_fails (Syntax k) h = sym (at_turn (bad k) h)
     turn_fails (Deep k) h = sym (at_turn (deep k) h)
@@ -94,7 +94,7 @@ module _ (e : ℕ) (inner inmost : Reach → Parser Ex) where
     pub locals_over : (c : Unit {0} × Spanned) (r : Tokens) → must (symbol s.CloseBrace) ts ≡ ok c r → whole ≡ ok (found, false) r
     locals_over c r h = sym (at_brace (ok c r) h) ∙ ap (λ v. pure {A = List Decl × Bool} (v, false) r) (append-nil found)
 
-    pub locals_open : (fault : ParseFault) → Fails (must (symbol s.CloseBrace) ts) fault → Fails whole fault
+    pub locals_open : (fault : Stop) → Fails (must (symbol s.CloseBrace) ts) fault → Fails whole fault
     locals_open Memory h = tt
     locals_open (Syntax k) h = sym (at_brace (bad k) h)
     locals_open (Deep k) h = sym (at_brace (deep k) h)

@@ -1,5 +1,5 @@
 -- What chains and generators stand for.
-use Rattle.std.proofs.Common.{◌≡◌, ℕ, Bool, Some, List, [], ◌∷◌, ◌++◌, map, ap, sym, ◌∙◌, rules, Box, Vec, Global}
+use Rattle.std.proofs.Common.{◌≡◌, Bool, List, [], ◌∷◌, ◌++◌, map, ap, sym, ◌∙◌, rules, Box, Vec, Global}
 use Rattle.std.proofs.lemmas.List.{map-append}
 use Rattle.ms_syntax.specs.declared.tree.Expr.{Expr, the_lemmas}
 use Rattle.ms_syntax.specs.declared.token.Place.{Place}
@@ -9,9 +9,8 @@ use Rattle.ms_syntax.specs.declared.tree.Link.{Link, roll-Link}
 use Rattle.ms_syntax.specs.declared.tree.Expr.TheVariants as e
 use Rattle.ms_syntax.specs.declared.tree.Binder.{Binder}
 use Rattle.ms_syntax.specs.declared.tree.Generator.{Generator, roll-Generator}
-use Rattle.ms_syntax.specs.declared.tree.Generators.{roll-Generators}
 use Rattle.ms_syntax.specs.declared.tree.Subscript.{Subscript}
-use Rattle.ms_syntax.specs.Tree.{ex_view, link_view, links_view, exs_view, gens_view, names_view, generator_view, decls_view, subscripts_view, chain, let_in, generator_call, array, access, present, no_exs}
+use Rattle.ms_syntax.specs.Tree.{ex_view, link_view, links_view, exs_view, names_view, generator_view, decls_view, subscripts_view, chain, let_in, array, access, no_exs}
 
 module _ (first : Box Expr Global) (links : Vec Link Global) where
   pub view_concat : ex_view (e.Concatenation first links) ≡ chain 2 (ex_view first.value) (links_view links.items)
@@ -35,14 +34,14 @@ module _ (first : Box Expr Global) (links : Vec Link Global) where
   pub view_same : ex_view (e.Equivalence first links) ≡ chain 11 (ex_view first.value) (links_view links.items)
   view_same = search (rules, the_lemmas)
 
-view_generator : (names : Vec Binder Global) (set : Expr) → generator_view (roll-Generator (record { names = names; set = set })) ≡ (names_view names.items, ex_view set)
+view_generator : (names : List Binder) (set : Expr) → generator_view (roll-Generator (record { names = names; set = set })) ≡ (names_view names, ex_view set)
 view_generator names set = search (rules, the_lemmas)
 
-pub one_generator : (found more : List Generator) (names kept : Vec Binder Global) (set : Expr) → more ≡ found ++ roll-Generator (record { names = names; set = set }) ∷ [] → names ≡ kept
-    → map generator_view more ≡ map generator_view found ++ (names_view kept.items, ex_view set) ∷ []
+pub one_generator : (found more : List Generator) (names kept : List Binder) (set : Expr) → more ≡ found ++ roll-Generator (record { names = names; set = set }) ∷ [] → names ≡ kept
+    → map generator_view more ≡ map generator_view found ++ (names_view kept, ex_view set) ∷ []
 one_generator found more names kept set h g =
     ap (map generator_view) h ∙ map-append generator_view found (roll-Generator (record { names = names; set = set }) ∷ [])
-    ∙ ap (λ v. map generator_view found ++ v ∷ []) (view_generator names set ∙ ap (λ k. (names_view k.items, ex_view set)) g)
+    ∙ ap (λ v. map generator_view found ++ v ∷ []) (view_generator names set ∙ ap (λ k. (names_view k, ex_view set)) g)
 
 view_link : (op : Operator) (p : Place) (e : Expr) → link_view (roll-Link (record { operator = op; place = p; operand = e })) ≡ (op, p, ex_view e)
 view_link op p e = search (rules, the_lemmas)
@@ -58,17 +57,11 @@ view_let p locals closed body = search (rules, the_lemmas)
 pub as_let : (p : Place) (locals : Vec Declaration Global) (closed : Bool) (body : Box Expr Global) (e2 : Expr) → body.value ≡ e2 → let_in p (decls_view locals.items) closed (ex_view e2) ≡ ex_view (e.Let p locals closed body)
 as_let p locals closed body e2 h = ap (λ v. let_in p (decls_view locals.items) closed (ex_view v)) (sym h) ∙ sym (view_let p locals closed body)
 
-view_call : (p : Place) (w : List ℕ) (list : Vec Generator Global) (condition body : Box Expr Global)
-    → ex_view (e.GeneratorCall p w (roll-Generators (record { list = list; condition = Some condition })) body) ≡ generator_call p w (gens_view list.items) (present (ex_view condition.value)) (ex_view body.value)
-view_call p w list condition body = search (rules, the_lemmas)
-
-pub as_call : (p : Place) (w : List ℕ) (list : Vec Generator Global) (condition body : Box Expr Global) (c b : Expr) → condition.value ≡ c → body.value ≡ b
-    → generator_call p w (gens_view list.items) (present (ex_view c)) (ex_view b) ≡ ex_view (e.GeneratorCall p w (roll-Generators (record { list = list; condition = Some condition })) body)
-as_call p w list condition body c b h g =
-    ap (λ v. generator_call p w (gens_view list.items) (present (ex_view v)) (ex_view b)) (sym h) ∙ ap (λ v. generator_call p w (gens_view list.items) (present (ex_view condition.value)) (ex_view v)) (sym g) ∙ sym (view_call p w list condition body)
-
 view_array : (p : Place) (es : Vec Expr Global) → ex_view (e.Array p es) ≡ array p (exs_view es.items)
 view_array p es = search (rules, the_lemmas)
+
+pub as_array : (p : Place) (es : Vec Expr Global) → array p (exs_view es.items) ≡ ex_view (e.Array p es)
+as_array p es = sym (view_array p es)
 
 pub as_empty : (p : Place) (es : Vec Expr Global) → es.items ≡ [] → array p no_exs ≡ ex_view (e.Array p es)
 as_empty p es h = ap (λ v. array p (exs_view v)) (sym h) ∙ sym (view_array p es)

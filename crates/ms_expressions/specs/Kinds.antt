@@ -1,5 +1,5 @@
 -- Kinds of tokens.
-use Rattle.std.specs.Prelude.{ℕ, List, Option, Some, None, Bool, true, false, ◌==◌, if◌then◌else◌}
+use Rattle.std.specs.Prelude.{ℕ, List, Option, Some, None, Bool, true, false, ◌==◌, ◌||◌, if◌then◌else◌}
 use Rattle.ms_syntax.specs.declared.token.Token.{Token}
 use Rattle.ms_syntax.specs.declared.token.Token.TheVariants as t
 use Rattle.ms_syntax.specs.declared.token.Keyword.{Keyword}
@@ -11,7 +11,7 @@ use Rattle.ms_syntax.specs.declared.tree.Operator.TheVariants as o
 use Rattle.ms_syntax.specs.declared.tree.Sign.{Sign}
 use Rattle.ms_syntax.specs.declared.tree.Sign.TheVariants as g
 use Rattle.ms_syntax.specs.Grammar.{operands}
-use Rattle.ms_syntax.specs.Kind.{is_symbol, is_keyword}
+use Rattle.ms_syntax.specs.Token.{is_symbol, is_keyword}
 
 abbrev pub a_number : Token → Option ℕ
 a_number (t.Number n) = Some n
@@ -43,6 +43,14 @@ symbol x u = when (is_symbol x u)
 
 abbrev pub keyword : Keyword → Token → Option (Unit {0})
 keyword x u = when (is_keyword x u)
+
+-- a word that begins a kind
+abbrev pub is_kind_word : Token → Bool
+is_kind_word u = is_keyword k.Array u || is_keyword k.Var u || is_keyword k.Par u || is_keyword k.Bool u
+    || is_keyword k.Int u || is_keyword k.String u || is_keyword k.Ann u || is_keyword k.Set u
+
+abbrev pub kind_word : Token → Option (Unit {0})
+kind_word u = when (is_kind_word u)
 
 -- the operator that a token is
 abbrev pub operator : Token → Option Operator

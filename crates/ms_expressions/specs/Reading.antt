@@ -1,5 +1,5 @@
 -- Reading tokens from the left: what each rule takes, and the first token that no list of the grammar has there.
-use Rattle.std.specs.Prelude.{ℕ, zero, suc, List, [], ◌∷◌, length, drop, Option, Some, None}
+use Rattle.std.specs.Prelude.{ℕ, zero, suc, List, [], ◌∷◌, ◌++◌, length, drop, Option, Some, None}
 use Rattle.ms_syntax.specs.declared.token.Place.{Place}
 use Rattle.ms_syntax.specs.declared.token.Token.{Token}
 use Rattle.ms_syntax.specs.declared.token.Spanned.{Spanned}
@@ -72,6 +72,16 @@ many_to (suc n) f p = by f (λ a y. p a y >>= λ x. many_to n f p >>= λ xs. pur
 abbrev pub many : {A B : Type 0} → (Token → Option A) → (A → Spanned → Parser B) → Parser (List B)
 many f p = λ ts. many_to (length ts) f p ts
 
+-- the values that were found, before those of the outcome
+abbrev pub grown : {A : Type 0} → List A → Out (List A) → Out (List A)
+grown found (ok xs r) = ok (found ++ xs) r
+grown found (bad n) = bad n
+grown found (deep n) = deep n
+
+-- one or more, with a token of f between
+unfoldable pub separated : {A B : Type 0} → (Token → Option A) → Parser B → Parser (List B)
+separated f p = p >>= λ x. many f (λ a y. p) >>= λ xs. pure (x ∷ xs)
+
 -- nothing, where no token of f comes
 abbrev pub sealed : {A B : Type 0} → (Token → Option A) → B → Parser B
 sealed f b = λ ts. pick (front f ts) (λ a. bad (length ts)) (ok b ts)
@@ -106,10 +116,6 @@ skip f p = must f >>= λ c. p
 -- and then a token of f
 abbrev pub closing : {A B : Type 0} → (Token → Option A) → Parser B → Parser B
 closing f p = p >>= λ b. must f >>= λ c. pure b
-
--- and then no token of f
-abbrev pub shut : {A B : Type 0} → (Token → Option A) → Parser B → Parser B
-shut f p = p >>= λ b. sealed f b
 
 -- takes a token that opens a bracket, where d more may open
 abbrev pub enter : {A : Type 0} → ℕ → (Token → Option A) → Parser (A × Spanned)

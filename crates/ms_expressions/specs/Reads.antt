@@ -5,26 +5,26 @@ use denote.Ref.{MutBor}
 use Rattle.ms_syntax.specs.declared.tree.Expr.{Expr}
 use Rattle.ms_syntax.specs.Tree.{ex_view}
 use Rattle.ms_syntax.specs.Grammar.{Tokens}
-use Rattle.ms_expressions.specs.declared.fault.ParseFault.{ParseFault}
-use Rattle.ms_expressions.specs.declared.fault.ParseFault.TheVariants.{Syntax, Deep, Memory}
+use Rattle.ms_expressions.specs.declared.stop.Stop.{Stop}
+use Rattle.ms_expressions.specs.declared.stop.Stop.TheVariants.{Syntax, Deep, Memory}
 use Rattle.ms_expressions.specs.declared.reach.Reach.{Reach}
 use Rattle.ms_expressions.specs.Reading.{Out, ok, bad, deep}
 use Rattle.ms_expressions.specs.Rules.{under, Turn, item, last}
 use Rattle.ms_expressions.specs.declared.turn.Turn.{Turn as Ends}
 
-abbrev pub Fails : {A : Type 0} → Out A → ParseFault → Type 0
+abbrev pub Fails : {A : Type 0} → Out A → Stop → Type 0
 Fails outcome Memory = Unit {0}
 Fails outcome (Syntax n) = outcome ≡ bad n
 Fails outcome (Deep n) = outcome ≡ deep n
 
-abbrev pub Reads : {X A : Type 0} → (X → A) → Out A → Result X ParseFault → Tokens → Type 0
+abbrev pub Reads : {X A : Type 0} → (X → A) → Out A → Result X Stop → Tokens → Type 0
 Reads view outcome (Ok a) new = outcome ≡ ok (view a) new
 Reads view outcome (Err e) new = Fails outcome e
 
 -- a function value that reads an expression where so many brackets may open, or fewer
-pub record Nests (depth : ℕ) (pre : Global → MutBor Tokens → ℕ → Reach → Type 0) (post : Global → MutBor Tokens → ℕ → Reach → Result Expr ParseFault → MutBor Tokens → Type 0) : Type 0 where
+pub record Nests (depth : ℕ) (pre : Global → MutBor Tokens → ℕ → Reach → Type 0) (post : Global → MutBor Tokens → ℕ → Reach → Result Expr Stop → MutBor Tokens → Type 0) : Type 0 where
   pub callable : (alloc : Global) (old : MutBor Tokens) (n : ℕ) (reach : Reach) → n ≤ depth → pre alloc old n reach
-  pub reads : (alloc : Global) (old new : MutBor Tokens) (n : ℕ) (reach : Reach) (r : Result Expr ParseFault) → post alloc old n reach r new → Reads ex_view (under n reach old.now) r new.now
+  pub reads : (alloc : Global) (old new : MutBor Tokens) (n : ℕ) (reach : Reach) (r : Result Expr Stop) → post alloc old n reach r new → Reads ex_view (under n reach old.now) r new.now
 
 abbrev pub turn_view : {X A : Type 0} → (X → A) → Ends X → Turn A
 turn_view view (Ends.Item x) = item (view x)

@@ -1,19 +1,21 @@
 //! The tokens that are left.
 
-ghost use Rattle.std.specs.Prelude.{◌≡◌, ◌↔◌, [], length, is_some, option_map, IsTrue, if◌then◌else◌};
-ghost use Rattle.ms_expressions.specs.Reading.{front, after, must, sealed, place_at, finish};
+ghost use Rattle.std.specs.Prelude.{◌≡◌, ◌↔◌, [], length, is_some, option_map, IsTrue};
+ghost use Rattle.std.specs.Prelude.{if◌then◌else◌};
+ghost use Rattle.ms_expressions.specs.Reading.{front, after, must, place_at, finish};
 ghost use Rattle.ms_expressions.specs.Reads.{Reads};
 ghost use Rattle.ms_expressions.specs.Kinds as kinds;
-ghost use Rattle.ms_expressions.specs.Behind.{past};
-ghost use Rattle.ms_expressions.specs.Rules as rules;
+ghost use Rattle.ms_expressions.specs.Level.{operands_of};
 
-use crate::behind::Behind;
-use crate::fault::ParseFault;
 use crate::kind::{begins_kind, infix, sign, truth};
-use ms_syntax::{Keyword, Operator, Place, Sign, Spanned, Symbol, Token, Word};
+use crate::level::Level;
+use crate::mark::Mark;
+use crate::stop::Stop;
+use ms_syntax::{Operator, Place, Sign, Spanned, Token, Word};
 use std::marker::Model;
 
-/// The tokens that are left of a list, which contracts see as their list.
+/// The tokens that are left of a list, which contracts see as their list. After a fault it may
+/// stand anywhere, and is not used again.
 #[derive(Drop)]
 pub struct Cursor<'a> {
     rest: &'a [Spanned],
@@ -43,33 +45,23 @@ impl<'a> Cursor<'a> {
         self.rest.len()
     }
 
-    /// Whether the next token is this symbol.
-    pub fn sees(&self, symbol: Symbol) -> bool
-        ensures { result ≡ is_some (front (kinds.symbol symbol) self.now) }
+    /// Whether the next token is this mark.
+    pub fn sees<M: Mark>(&self, mark: M) -> bool
+        ensures { result ≡ is_some (front (M.matches mark) self.now) }
     {
         match self.rest.first() {
-            Some(first) => first.token.is_symbol(symbol),
+            Some(first) => mark.is(&first.token),
             None => false,
         }
     }
 
-    /// Whether the next token is this word.
-    pub fn sees_word(&self, keyword: Keyword) -> bool
-        ensures { result ≡ is_some (front (kinds.keyword keyword) self.now) }
-    {
-        match self.rest.first() {
-            Some(first) => first.token.is_keyword(keyword),
-            None => false,
-        }
-    }
-
-    /// Takes the next token if it is this symbol, and says whether it did.
-    pub fn takes(&mut self, symbol: Symbol) -> bool
-        ensures taken { result ≡ is_some (front (kinds.symbol symbol) self.old) }
+    /// Takes the next token if it is this mark, and says whether it did.
+    pub fn takes<M: Mark>(&mut self, mark: M) -> bool
+        ensures taken { result ≡ is_some (front (M.matches mark) self.old) }
         ensures rest { self.new ≡ (if result then after self.old else self.old) }
     {
         match self.rest.split_first() {
-            Some((first, others)) if first.token.is_symbol(symbol) => {
+            Some((first, others)) if mark.is(&first.token) => {
                 self.rest = others;
                 true
             }
@@ -77,74 +69,29 @@ impl<'a> Cursor<'a> {
         }
     }
 
-    /// Takes the next token if it is this word, and says whether it did.
-    pub fn takes_word(&mut self, keyword: Keyword) -> bool
-        ensures taken { result ≡ is_some (front (kinds.keyword keyword) self.old) }
-        ensures rest { self.new ≡ (if result then after self.old else self.old) }
-    {
-        match self.rest.split_first() {
-            Some((first, others)) if first.token.is_keyword(keyword) => {
-                self.rest = others;
-                true
-            }
-            _ => false,
-        }
-    }
-
-    /// Takes the next token if it is this symbol.
-    pub fn eat(&mut self, symbol: Symbol) -> Option<&'a Spanned>
-        ensures taken { option_map (λ y. (tt, y.now)) result ≡ front (kinds.symbol symbol) self.old }
+    /// Takes the next token if it is this mark.
+    pub fn eat<M: Mark>(&mut self, mark: M) -> Option<&'a Spanned>
+        ensures taken { option_map (λ y. (tt, y.now)) result ≡ front (M.matches mark) self.old }
         ensures rest { self.new ≡ (if is_some result then after self.old else self.old) }
     {
         let (first, others) = self.rest.split_first()?;
-        if !first.token.is_symbol(symbol) {
+        if !mark.is(&first.token) {
             return None;
         }
         self.rest = others;
         Some(first)
     }
 
-    /// Takes the next token if it is this word.
-    pub fn eat_word(&mut self, keyword: Keyword) -> Option<&'a Spanned>
-        ensures taken { option_map (λ y. (tt, y.now)) result ≡ front (kinds.keyword keyword) self.old }
-        ensures rest { self.new ≡ (if is_some result then after self.old else self.old) }
-    {
-        let (first, others) = self.rest.split_first()?;
-        if !first.token.is_keyword(keyword) {
-            return None;
-        }
-        self.rest = others;
-        Some(first)
-    }
-
-    /// Takes the next token, which has to be this symbol.
-    pub fn expect(&mut self, symbol: Symbol) -> Result<&'a Spanned, ParseFault>
-        ensures { Reads (λ y. (tt, y.now)) (must (kinds.symbol symbol) self.old) result self.new }
+    /// Takes the next token, which has to be this mark.
+    pub fn expect<M: Mark>(&mut self, mark: M) -> Result<&'a Spanned, Stop>
+        ensures { Reads (λ y. (tt, y.now)) (must (M.matches mark) self.old) result self.new }
     {
         let left = self.left();
-        self.eat(symbol).ok_or(ParseFault::Syntax(left))
-    }
-
-    /// Takes the next token, which has to be this word.
-    pub fn expect_word(&mut self, keyword: Keyword) -> Result<&'a Spanned, ParseFault>
-        ensures { Reads (λ y. (tt, y.now)) (must (kinds.keyword keyword) self.old) result self.new }
-    {
-        let left = self.left();
-        self.eat_word(keyword).ok_or(ParseFault::Syntax(left))
-    }
-
-    /// The next token may not be this symbol.
-    pub fn refuse(&self, symbol: Symbol) -> Result<(), ParseFault>
-        ensures { Reads (λ x. tt {0}) (sealed (kinds.symbol symbol) (tt {0}) self.now) result self.now }
-    {
-        if self.sees(symbol) {
-            return Err(ParseFault::Syntax(self.left()));
-        }
-        Ok(())
+        self.eat(mark).ok_or(Stop::Syntax(left))
     }
 
     /// Takes the next token if it is a name.
-    pub fn eat_name(&mut self) -> Option<(&'a Word, &'a Spanned)>
+    pub(crate) fn eat_name(&mut self) -> Option<(&'a Word, &'a Spanned)>
         ensures taken { option_map (λ r. (r.0.now, r.1.now)) result ≡ front kinds.a_name self.old }
         ensures rest { self.new ≡ (if is_some result then after self.old else self.old) }
     {
@@ -159,15 +106,15 @@ impl<'a> Cursor<'a> {
     }
 
     /// Takes the next token, which has to be a name.
-    pub fn expect_name(&mut self) -> Result<(&'a Word, &'a Spanned), ParseFault>
+    pub(crate) fn expect_name(&mut self) -> Result<(&'a Word, &'a Spanned), Stop>
         ensures { Reads (λ r. (r.0.now, r.1.now)) (must kinds.a_name self.old) result self.new }
     {
         let left = self.left();
-        self.eat_name().ok_or(ParseFault::Syntax(left))
+        self.eat_name().ok_or(Stop::Syntax(left))
     }
 
     /// Takes the next token if it is a text.
-    pub fn eat_text(&mut self) -> Option<(&'a Word, &'a Spanned)>
+    pub(crate) fn eat_text(&mut self) -> Option<(&'a Word, &'a Spanned)>
         ensures taken { option_map (λ r. (r.0.now, r.1.now)) result ≡ front kinds.a_text self.old }
         ensures rest { self.new ≡ (if is_some result then after self.old else self.old) }
     {
@@ -182,15 +129,15 @@ impl<'a> Cursor<'a> {
     }
 
     /// Takes the next token, which has to be a text.
-    pub fn expect_text(&mut self) -> Result<(&'a Word, &'a Spanned), ParseFault>
+    pub fn expect_text(&mut self) -> Result<(&'a Word, &'a Spanned), Stop>
         ensures { Reads (λ r. (r.0.now, r.1.now)) (must kinds.a_text self.old) result self.new }
     {
         let left = self.left();
-        self.eat_text().ok_or(ParseFault::Syntax(left))
+        self.eat_text().ok_or(Stop::Syntax(left))
     }
 
     /// Takes the next token if it is a number.
-    pub fn eat_number(&mut self) -> Option<(u64, &'a Spanned)>
+    pub(crate) fn eat_number(&mut self) -> Option<(u64, &'a Spanned)>
         ensures taken { option_map (λ r. (r.0, r.1.now)) result ≡ front kinds.a_number self.old }
         ensures rest { self.new ≡ (if is_some result then after self.old else self.old) }
     {
@@ -205,7 +152,7 @@ impl<'a> Cursor<'a> {
     }
 
     /// Takes the next token if it is `true` or `false`.
-    pub fn eat_truth(&mut self) -> Option<(bool, &'a Spanned)>
+    pub(crate) fn eat_truth(&mut self) -> Option<(bool, &'a Spanned)>
         ensures taken { option_map (λ r. (r.0, r.1.now)) result ≡ front kinds.a_truth self.old }
         ensures rest { self.new ≡ (if is_some result then after self.old else self.old) }
     {
@@ -216,7 +163,7 @@ impl<'a> Cursor<'a> {
     }
 
     /// Takes the next token if it is a sign.
-    pub fn eat_sign(&mut self) -> Option<(Sign, &'a Spanned)>
+    pub(crate) fn eat_sign(&mut self) -> Option<(Sign, &'a Spanned)>
         ensures taken { option_map (λ r. (r.0, r.1.now)) result ≡ front kinds.a_sign self.old }
         ensures rest { self.new ≡ (if is_some result then after self.old else self.old) }
     {
@@ -226,28 +173,26 @@ impl<'a> Cursor<'a> {
         Some((found, first))
     }
 
-    /// Takes the next token if it is an operator whose operands bind as loosely as `loosest`.
-    pub fn eat_infix(&mut self, loosest: u8) -> Option<(Operator, &'a Spanned)>
-        ensures taken { option_map (λ r. (r.0, r.1.now)) result ≡ front (kinds.infix_of loosest) self.old }
+    /// Whether the next token is an operator of the level.
+    pub(crate) fn sees_infix(&self, level: Level) -> bool
+        ensures { result ≡ is_some (front (kinds.infix_of (operands_of level)) self.now) }
+    {
+        match self.rest.first() {
+            Some(first) => infix(level, &first.token).is_some(),
+            None => false,
+        }
+    }
+
+    /// Takes the next token if it is an operator of the level.
+    pub(crate) fn eat_infix(&mut self, level: Level) -> Option<(Operator, &'a Spanned)>
+        ensures taken { option_map (λ r. (r.0, r.1.now)) result ≡ front (kinds.infix_of (operands_of level))
+            self.old }
         ensures rest { self.new ≡ (if is_some result then after self.old else self.old) }
     {
         let (first, others) = self.rest.split_first()?;
-        let found = infix(loosest, &first.token)?;
+        let found = infix(level, &first.token)?;
         self.rest = others;
         Some((found, first))
-    }
-
-    /// The next token may not be an operator whose operands bind as loosely as `loosest`.
-    pub fn refuse_infix(&self, loosest: u8) -> Result<(), ParseFault>
-        ensures { Reads (λ x. tt {0}) (sealed (kinds.infix_of loosest) (tt {0}) self.now) result self.now }
-    {
-        match self.rest.first() {
-            Some(first) => match infix(loosest, &first.token) {
-                Some(_) => Err(ParseFault::Syntax(self.rest.len())),
-                None => Ok(()),
-            },
-            None => Ok(()),
-        }
     }
 
     /// The place of the next token.
@@ -264,19 +209,6 @@ impl<'a> Cursor<'a> {
         }
     }
 
-    /// The next token may stand behind such a part.
-    pub fn before(&self, behind: Behind) -> Result<(), ParseFault>
-        ensures { Reads (λ x. tt {0}) (sealed (past behind) (tt {0}) self.now) result self.now }
-    {
-        let Some(first) = self.rest.first() else {
-            return Ok(());
-        };
-        if behind.allows(&first.token) {
-            return Ok(());
-        }
-        Err(ParseFault::Syntax(self.rest.len()))
-    }
-
     /// Whether no token is left.
     pub fn is_empty(&self) -> bool
         ensures { IsTrue result ↔ (self.now ≡ []) }
@@ -286,7 +218,7 @@ impl<'a> Cursor<'a> {
 
     /// Whether the next token is a word that begins a kind.
     pub fn sees_kind(&self) -> bool
-        ensures { result ≡ is_some (front rules.kind_word self.now) }
+        ensures { result ≡ is_some (front kinds.kind_word self.now) }
     {
         match self.rest.first() {
             Some(first) => begins_kind(&first.token),
@@ -295,12 +227,12 @@ impl<'a> Cursor<'a> {
     }
 
     /// No token may be left.
-    pub fn finish(&self) -> Result<(), ParseFault>
+    pub fn finish(&self) -> Result<(), Stop>
         ensures { Reads (λ x. tt {0}) (finish (tt {0}) self.now) result [] }
     {
         if self.rest.is_empty() {
             return Ok(());
         }
-        Err(ParseFault::Syntax(self.rest.len()))
+        Err(Stop::Syntax(self.rest.len()))
     }
 }

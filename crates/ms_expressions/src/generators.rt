@@ -4,13 +4,14 @@ ghost use Rattle.std.specs.Prelude.{◌≡◌, option_map, IfOk};
 ghost use Rattle.ms_syntax.specs.Tree.{exs_view, gens_view};
 ghost use Rattle.ms_expressions.specs.Rules.{generators_of};
 
-use ms_syntax::{Expr, Generator};
+use ms_syntax::{Binders, Expr, Generator};
 use std::alloc::{AllocError, Global};
 use std::mem;
 
 /// The generators that the expressions are, if they are: names, and each last one with its set.
 pub fn into_generators(alloc: Global, list: Vec<Expr>) -> Result<Option<Vec<Generator>>, AllocError>
-    ensures { IfOk result (λ o. option_map (λ v. gens_view v.items) o ≡ generators_of (exs_view list.items)) }
+    ensures { IfOk result
+        (λ o. option_map (λ v. gens_view v.items) o ≡ generators_of (exs_view list.items)) }
 {
     let mut found = Vec::new(alloc);
     let mut names = Vec::new(alloc);
@@ -21,6 +22,7 @@ pub fn into_generators(alloc: Global, list: Vec<Expr>) -> Result<Option<Vec<Gene
         names.push(binder)?;
         if let Some(set) = set {
             let names = mem::replace(&mut names, Vec::new(alloc));
+            let names = Binders::from_vec(names);
             found.push(Generator { names, set })?;
         }
     }

@@ -2,14 +2,15 @@
 
 ghost use Rattle.std.specs.Prelude.{◌≡◌};
 ghost use Rattle.ms_expressions.specs.Kinds as kinds;
-ghost use Rattle.ms_expressions.specs.Rules.{is_kind_word};
-ghost use Rattle.ms_syntax.specs.Grammar.{operands as operands_of};
+ghost use Rattle.ms_syntax.specs.Grammar.{operands};
+ghost use Rattle.ms_expressions.specs.Level.{operands_of};
 
+use crate::level::Level;
 use ms_syntax::{Keyword, Operator, Sign, Symbol, Token};
 
 /// Whether the token is a word that begins a kind.
 pub fn begins_kind(token: &Token) -> bool
-    ensures { result ≡ is_kind_word token.now }
+    ensures { result ≡ kinds.is_kind_word token.now }
 {
     token.is_keyword(Keyword::Array)
         || token.is_keyword(Keyword::Var)
@@ -71,35 +72,35 @@ fn operator(token: &Token) -> Option<Operator>
     }
 }
 
-/// How loosely the operands of an operator may bind.
-fn operands(operator: Operator) -> u8
-    ensures { result ≡ operands_of operator }
+/// The level of an operator.
+fn level_of(operator: Operator) -> Level
+    ensures { operands_of result ≡ operands operator }
 {
     match operator {
-        Operator::Concat => 2,
-        Operator::Times | Operator::Div | Operator::Mod => 3,
-        Operator::Plus | Operator::Minus => 4,
-        Operator::To => 5,
-        Operator::In => 6,
+        Operator::Concat => Level::Concatenation,
+        Operator::Times | Operator::Div | Operator::Mod => Level::Product,
+        Operator::Plus | Operator::Minus => Level::Sum,
+        Operator::To => Level::Range,
+        Operator::In => Level::Membership,
         Operator::Equal
         | Operator::NotEqual
         | Operator::Less
         | Operator::AtMost
         | Operator::Greater
-        | Operator::AtLeast => 7,
-        Operator::And => 8,
-        Operator::Or | Operator::Xor => 9,
-        Operator::Implies | Operator::ImpliedBy => 10,
-        Operator::Equivalent => 11,
+        | Operator::AtLeast => Level::Comparison,
+        Operator::And => Level::Conjunction,
+        Operator::Or | Operator::Xor => Level::Disjunction,
+        Operator::Implies | Operator::ImpliedBy => Level::Implication,
+        Operator::Equivalent => Level::Equivalence,
     }
 }
 
-/// The operator that a token is, if its operands bind as loosely as `loosest`.
-pub fn infix(loosest: u8, token: &Token) -> Option<Operator>
-    ensures { result ≡ kinds.infix_of loosest token.now }
+/// The operator that a token is, if it is one of the level.
+pub fn infix(level: Level, token: &Token) -> Option<Operator>
+    ensures { result ≡ kinds.infix_of (operands_of level) token.now }
 {
     let found = operator(token)?;
-    if operands(found) == loosest {
+    if level_of(found).tighter() == level.tighter() {
         Some(found)
     } else {
         None

@@ -1,5 +1,5 @@
 /// How loose an expression may be: any, or one of the level of `..`.
-#[derive(Clone, Copy, Debug, PartialEq, Eq)]
+#[derive(Clone, Copy)]
 pub enum Reach {
     /// Any expression, also a `let`.
     Any,

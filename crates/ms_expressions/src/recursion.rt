@@ -7,13 +7,14 @@ ghost use Rattle.ms_expressions.specs.Rules as spec;
 ghost use Rattle.ms_expressions.specs.declared.reach.Reach.TheVariants as reach;
 
 use crate::cursor::Cursor;
-use crate::fault::ParseFault;
 use crate::grammar::Grammar;
+use crate::level::Level;
 use crate::reach::Reach;
+use crate::stop::Stop;
 use ms_syntax::{Declaration, Expr, Keyword, Place, Symbol};
 use std::alloc::Global;
 
-impl<F: Fn(Global, &mut Cursor<'_>, usize, Reach) -> Result<Expr, ParseFault> + Copy> Grammar<F> {
+impl<F: Fn(Global, &mut Cursor<'_>, usize, Reach) -> Result<Expr, Stop> + Copy> Grammar<F> {
     /// The grammar inside a bracket.
     fn inside(&self) -> Grammar<F>
         requires { 0 < self.now.depth }
@@ -29,43 +30,51 @@ impl<F: Fn(Global, &mut Cursor<'_>, usize, Reach) -> Result<Expr, ParseFault> + 
     }
 
     /// The declarations in a bracket that has opened.
-    fn locals_inside(&self, tokens: &mut Cursor<'_>) -> Result<(Vec<Declaration>, bool), ParseFault>
+    fn locals_inside(&self, tokens: &mut Cursor<'_>) -> Result<(Vec<Declaration>, bool), Stop>
         requires nests { Nests self.now.depth (F.pre self.now.expr) (F.post self.now.expr) }
         requires opened { 0 < self.now.depth }
-        ensures { Reads (λ r. (map declaration_view r.0.items, r.1)) (spec.locals (pred self.now.depth) (spec.under self.now.depth) (spec.inmost self.now.depth) tokens.old) result tokens.new }
+        ensures { Reads (λ r. (map declaration_view r.0.items, r.1))
+            (spec.locals (pred self.now.depth) (spec.under self.now.depth)
+            (spec.inmost self.now.depth) tokens.old)
+            result tokens.new }
     {
         self.inside().locals(tokens)
     }
 
     /// After `let`.
     #[tactic(auto, unfolding(crate::specs::Rules::local))]
-    fn local(&self, tokens: &mut Cursor<'_>, place: Place) -> Result<Expr, ParseFault>
+    fn local(&self, tokens: &mut Cursor<'_>, place: Place) -> Result<Expr, Stop>
         requires { Nests self.now.depth (F.pre self.now.expr) (F.post self.now.expr) }
-        ensures { Reads ex_view (spec.local self.now.depth (spec.under self.now.depth) (spec.inmost self.now.depth) place tokens.old) result tokens.new }
+        ensures { Reads ex_view
+            (spec.local self.now.depth (spec.under self.now.depth)
+            (spec.inmost self.now.depth) place tokens.old)
+            result tokens.new }
     {
-        tokens.expect(Symbol::OpenBrace)?;
-        self.open(tokens)?;
+        self.enter(tokens, Symbol::OpenBrace)?;
         let (locals, closed) = self.locals_inside(tokens)?;
-        tokens.expect_word(Keyword::In)?;
-        let body = self.tier(tokens, 10)?;
+        tokens.expect(Keyword::In)?;
+        let body = self.up_to(tokens, Level::Equivalence)?;
         let body = Box::new(self.alloc, body)?;
         Ok(Expr::Let(place, locals, closed, body))
     }
 
     /// An expression of so loose a level.
     #[tactic(auto, unfolding(crate::specs::Rules::reads))]
-    fn reads(&self, tokens: &mut Cursor<'_>, reach: Reach) -> Result<Expr, ParseFault>
+    fn reads(&self, tokens: &mut Cursor<'_>, reach: Reach) -> Result<Expr, Stop>
         requires { Nests self.now.depth (F.pre self.now.expr) (F.post self.now.expr) }
-        ensures { Reads ex_view (spec.reads self.now.depth (spec.under self.now.depth) (spec.inmost self.now.depth) reach tokens.old) result tokens.new }
+        ensures { Reads ex_view
+            (spec.reads self.now.depth (spec.under self.now.depth)
+            (spec.inmost self.now.depth) reach tokens.old)
+            result tokens.new }
     {
         match reach {
             Reach::Any => {
-                if let Some(token) = tokens.eat_word(Keyword::Let) {
+                if let Some(token) = tokens.eat(Keyword::Let) {
                     return self.local(tokens, token.place);
                 }
-                self.tier(tokens, 10)
+                self.up_to(tokens, Level::Equivalence)
             }
-            Reach::Range => self.tier(tokens, 4),
+            Reach::Range => self.up_to(tokens, Level::Range),
         }
     }
 }
@@ -77,11 +86,11 @@ pub fn expr(
     tokens: &mut Cursor<'_>,
     depth: usize,
     reach: Reach,
-) -> Result<Expr, ParseFault>
+) -> Result<Expr, Stop>
     ensures { Reads ex_view (spec.under depth reach tokens.old) result tokens.new }
 {
     if depth == 0 {
-        return Err(ParseFault::Syntax(tokens.left()));
+        return Err(Stop::Syntax(tokens.left()));
     }
     Grammar {
         alloc,

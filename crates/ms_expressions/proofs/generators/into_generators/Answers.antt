@@ -26,7 +26,7 @@ loop-e-preserved-in-Continue-branch-2 c =
           (binder_view c.in-Some-part.binder) (ex_view c.in-Some-set.set) (names_view c.push.new.self.items) found
           (ap (λ (s : Option Expr). Some (binder_view c.in-Some-part.binder, maybe_view s)) c.in-Some-set.is)
           (ap names_view c.in_ok-push.ensures.items ∙ map-append binder_view c.loop-e.names.items (c.in-Some-part.binder ∷ []))
-          (one_generator c.loop-e.found.items c.push-in-Some-set.new.self.items c.replace-names.result c.push.new.self c.in-Some-set.set c.in_ok-push-2.ensures.items c.replace-names.ensures.value),
+          (one_generator c.loop-e.found.items c.push-in-Some-set.new.self.items c.from_vec-names.result c.push.new.self.items c.in-Some-set.set c.in_ok-push-2.ensures.items (c.from_vec-names.ensures ∙ ap (λ (v : Vec Binder Global). v.items) c.replace-names.ensures.value)),
     )
 
 pub returns-then-is_empty : goal.returns-then-is_empty
