@@ -4,10 +4,12 @@ use Rattle.std.specs.Prelude.{Result, Ok, Err, IfOk}
 use Rattle.ms_syntax.specs.declared.token.Token.{Token}
 use Rattle.ms_syntax.specs.Grammar.{Tokens, IsShallow, SyntaxAt, DeepAt}
 use Rattle.ms_syntax.proofs.OneAnswer.{one_answer}
-use Rattle.ms_expressions.specs.declared.fault.ParseFault.{ParseFault}
-use Rattle.ms_expressions.specs.declared.fault.ParseFault.TheVariants.{Syntax, Deep, Memory}
+use Rattle.ms_expressions.specs.declared.stop.Stop.{Stop}
+use Rattle.ms_expressions.specs.declared.stop.Stop.TheVariants as stop
 use Rattle.ms_expressions.specs.Reading.{Parser, ◌>>=◌, finish}
 use Rattle.ms_expressions.specs.Reads.{Reads}
+use Rattle.ms_parser.specs.declared.fault.ParseFault.{ParseFault}
+use Rattle.ms_parser.specs.declared.fault.ParseFault.TheVariants.{Syntax, Deep, Memory}
 use Rattle.ms_parser.specs.Answers.{GivesUnlessMemory, FailsUnlessMemory, IsWithin, from_front}
 use Rattle.ms_parser.proofs.Exact.{Exact, nobody}
 use Rattle.ms_parser.proofs.Law as law
@@ -22,13 +24,13 @@ pub record Answered {X A : Type 0} (view : X → A) (G : A → Tokens → Type 0
   pub deep_given : (k : ℕ) → DeepAt G ts k → FailsUnlessMemory (Deep k) r
 
 module _ {X A : Type 0} (view : X → A) (E : Token → Bool) (G : A → Tokens → Type 0) (p : Parser A) (exact : (n : ℕ) → Exact n 200 200 nobody E G p) (ts : Tokens) where
-  pub within : (r : Result X ParseFault) → Reads view ((p >>= finish) ts) r [] → IsWithin (length ts) r
+  pub within : (r : Result X Stop) → Reads view ((p >>= finish) ts) r [] → IsWithin (length ts) r
   within (Ok a) h = tt
-  within (Err Memory) h = tt
-  within (Err (Syntax n)) h = law.syntax_left E G p exact ts n h
-  within (Err (Deep n)) h = law.deep_left E G p exact ts n h
+  within (Err stop.Memory) h = tt
+  within (Err (stop.Syntax n)) h = law.syntax_left E G p exact ts n h
+  within (Err (stop.Deep n)) h = law.deep_left E G p exact ts n h
 
-  pub answered : (r : Result X ParseFault) → Reads view ((p >>= finish) ts) r [] → Answered view G ts (from_front (length ts) r)
+  pub answered : (r : Result X Stop) → Reads view ((p >>= finish) ts) r [] → Answered view G ts (from_front (length ts) r)
   answered (Ok a) h =
       let both = law.whole_found E G p exact ts (view a) [] h in
       record {
@@ -39,7 +41,7 @@ module _ {X A : Type 0} (view : X → A) (E : Token → Bool) (G : A → Tokens 
         deep_found = λ k e. absurd (cc);
         deep_given = λ k d. absurd ((one_answer G).not_deep ts k both.1 d);
       }
-  answered (Err Memory) h =
+  answered (Err stop.Memory) h =
       record {
         found = tt;
         only = λ x g s. tt;
@@ -48,7 +50,7 @@ module _ {X A : Type 0} (view : X → A) (E : Token → Bool) (G : A → Tokens 
         deep_found = λ k e. absurd (cc);
         deep_given = λ k d. tt;
       }
-  answered (Err (Syntax n)) h =
+  answered (Err (stop.Syntax n)) h =
       let here = law.whole_syntax E G p exact ts n h in
       record {
         found = tt;
@@ -58,7 +60,7 @@ module _ {X A : Type 0} (view : X → A) (E : Token → Bool) (G : A → Tokens 
         deep_found = λ k e. absurd (cc);
         deep_given = λ k d. absurd ((one_answer G).not_both ts (length ts - n) k here d);
       }
-  answered (Err (Deep n)) h =
+  answered (Err (stop.Deep n)) h =
       let here = law.whole_deep E G p exact ts n h in
       record {
         found = tt;

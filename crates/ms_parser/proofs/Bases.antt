@@ -16,9 +16,9 @@ use Rattle.ms_syntax.specs.Grammar.{Tokens, ◌⋅◌, the, at, WritesIndex, Wri
 use Rattle.ms_expressions.specs.declared.reach.Reach.{Reach}
 use Rattle.ms_expressions.specs.declared.reach.Reach.TheVariants as reach
 use Rattle.ms_expressions.specs.Reading.{Out, bad, deep, Parser, ◌>>=◌, ok, and_then, pick, front, after, pure, by, into, skip, closing}
-use Rattle.ms_syntax.specs.Kind.{is_symbol}
+use Rattle.ms_syntax.specs.Token.{is_symbol}
 use Rattle.ms_expressions.specs.Kinds.{a_name, symbol, keyword, when}
-use Rattle.ms_expressions.specs.Rules.{a_word, past_declaration, index_set, index_sets}
+use Rattle.ms_expressions.specs.Rules.{a_word, index_set, index_sets}
 use Rattle.ms_parser.proofs.Classes.{name_class, symbol_class, keyword_class}
 use Rattle.ms_parser.proofs.Exact.{Exact, Seq, Just, One, nobody, append_nil, extend}
 use Rattle.ms_parser.proofs.Choices.{either, some_or}
@@ -45,38 +45,6 @@ pub regroup : {A B C : Type 0} {n d1 d2 : ℕ} {I E : Token → Bool} {G : C →
     → Exact n d1 d2 I E G (p >>= λ a. q a >>= g) → Exact n d1 d2 I E G ((p >>= q) >>= g)
 regroup {n = n} {d1 = d1} {d2 = d2} {I = I} {E = E} {G = G} p q g one =
     extend n d1 d2 I E G ((p >>= q) >>= g) (p >>= λ a. q a >>= g) (λ ts h. and_then_twice (p ts) q g) one
-
--- what may not follow of I may not follow of f either
-pub stop_all : {A : Type 0} (f : Token → Option A) (I : Token → Bool) → ((u : Token) → f u ≡ None → I u ≡ false) → (u : Token) → either f I u ≡ either f nobody u
-stop_all f I h u = at_option (f u) refl
-  where
-    at_option : (q : Option _) → f u ≡ q → some_or q (I u) ≡ some_or q false
-    at_option None e = h u e
-    at_option (Some a) e = refl
-
-pub beyond_not : (b : Bool) → when (not b) ≡ None → b ≡ true
-beyond_not true h = refl
-beyond_not false h = absurd (cc)
-
-pub or_true : (a b : Bool) → (a || b) ≡ true → (a ≡ true) ⊎ (b ≡ true)
-or_true true b h = inl refl
-or_true false b h = inr h
-
-pub symbol_of : (z : Symbol) (u : Token) → is_symbol z u ≡ true → u ≡ tok.Symbol z
-symbol_of z u h = (symbol_class z).is u tt (ap when h)
-
-pub past_declaration_is : (u : Token) → past_declaration u ≡ None → (u ≡ tok.Symbol s.Semicolon) ⊎ (u ≡ tok.Symbol s.CloseBrace)
-past_declaration_is u h = elim (or_true (is_symbol s.Semicolon u) (is_symbol s.CloseBrace u) (beyond_not (is_symbol s.Semicolon u || is_symbol s.CloseBrace u) h)) as (λ _. (u ≡ tok.Symbol s.Semicolon) ⊎ (u ≡ tok.Symbol s.CloseBrace)) [
-  | inl a ↦ inl (symbol_of s.Semicolon u a)
-  | inr a ↦ inr (symbol_of s.CloseBrace u a)
-]
-
-pub past_declaration_all : (I : Token → Bool) → I (tok.Symbol s.Semicolon) ≡ false → I (tok.Symbol s.CloseBrace) ≡ false → (u : Token) → either past_declaration I u ≡ either past_declaration nobody u
-past_declaration_all I a b = stop_all past_declaration I (λ u h. at_case u (past_declaration_is u h))
-  where
-    at_case : (u : Token) → (u ≡ tok.Symbol s.Semicolon) ⊎ (u ≡ tok.Symbol s.CloseBrace) → I u ≡ false
-    at_case u (inl h) = subst (λ (v : Token). I v ≡ false) (sym h) a
-    at_case u (inr h) = subst (λ (v : Token). I v ≡ false) (sym h) b
 
 -- ---- words
 

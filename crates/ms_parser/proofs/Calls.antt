@@ -13,14 +13,14 @@ use Rattle.ms_syntax.specs.Tree.{Names, Ex, Maybe, Exs, Gens}
 use Rattle.ms_syntax.specs.Grammar.{Tokens, ◌⋅◌, at, bound, Writes, WritesNames, WritesMoreNames, WritesMore, WritesList, WritesSome, WritesWhere, WritesGens, WritesMoreGens, mark, word, opens, left_after}
 use Rattle.ms_expressions.specs.declared.reach.Reach.{Reach}
 use Rattle.ms_expressions.specs.declared.reach.Reach.TheVariants as reach
-use Rattle.ms_expressions.specs.Reading.{Parser, ◌>>=◌, must, enter, sealed, into, closing, shut}
+use Rattle.ms_expressions.specs.Reading.{Parser, ◌>>=◌, must, enter, sealed, into, closing}
 use Rattle.ms_expressions.specs.Kinds.{symbol, keyword}
 use Rattle.ms_expressions.specs.Rules.{generators_from, generators_of, if_generators, after_where, generator_body, after_list, arguments}
 use Rattle.ms_parser.proofs.Classes.{symbol_class, keyword_class}
-use Rattle.ms_parser.proofs.Exact.{Exact, Seq, Just, One, Cases, nobody, append_nil}
+use Rattle.ms_parser.proofs.Exact.{widen, Exact, Seq, Just, One, Cases, nobody, append_nil}
 use Rattle.ms_parser.proofs.Choices.{either, some_or}
 use Rattle.ms_parser.proofs.Read as r
-use Rattle.ms_parser.proofs.Parts.{Pair, Image, Start, Has, token_at, has_closing, has_image, next, both, mapped, behind, closed_by, shut_by, start}
+use Rattle.ms_parser.proofs.Parts.{Pair, Image, Start, Has, token_at, has_closing, has_image, next, both, mapped, behind, none_after, closed_by, start}
 use Rattle.ms_parser.proofs.Lists.{must_open, restop}
 use Rattle.ms_parser.proofs.Enclosed.{comma, e_atom, e_any, e_range, Fresh, nobody_fresh, symbol_fresh, IsAt, IsClosed, has_zero, list_exact}
 
@@ -309,21 +309,21 @@ module _ (e : ℕ) (inner : Reach → Parser Ex) (any : (n : ℕ) (I : Token →
 
   pub after_where_exact : (n : ℕ) (p : Place) (w : List ℕ) (gs : Gens) → Exact n e (suc e) nobody e_atom (AfterWhere p w gs) (after_where (suc e) inner p w gs)
   unfolding after_where
-  after_where_exact n p w gs = shut_by lparen (mapped (λ r. x.generator_call p w gs (x.present r.0) r.1) (both (closed_exact n) (body_exact n)))
+  after_where_exact n p w gs = widen (λ u h. refl) (mapped (λ r. x.generator_call p w gs (x.present r.0) r.1) (both (closed_exact n) (body_exact n)))
 
   pub after_list_exact : (n : ℕ) (p : Place) (w : List ℕ) (es : Exs) → Exact n (suc e) (suc e) nobody e_atom (AfterList p w es) (after_list (suc e) inner p w es)
   unfolding after_list generator_body
   after_list_exact n p w es =
-      r.opening_exact n nobody (if_generators es lparen) (λ gs y. Image (x.generator_call p w gs x.absent) IsClosed) (λ gs y. shut lparen (into (x.generator_call p w gs x.absent) (closing rparen (inner reach.Any))))
+      r.opening_exact n nobody (if_generators es lparen) (λ gs y. Image (x.generator_call p w gs x.absent) IsClosed) (λ gs y. into (x.generator_call p w gs x.absent) (closing rparen (inner reach.Any)))
       (λ y gs h. refl) (λ y gs h. subst (λ (u : Token). opens u ≡ true) (sym ((symbol_class s.OpenParenthesis).is y.token tt (gens_class_is es lparen y.token gs h).0)) refl)
       (λ gs y. has_image (x.generator_call p w gs x.absent) (has_closing (tok.Symbol s.CloseParenthesis) has_zero)) (suc e) e_atom (Just (x.call p w es)) (sealed lparen (x.call p w es))
       (restop (gens_stop es lparen) (r.sealed_exact n (suc e) (either (if_generators es lparen) nobody) lparen (x.call p w es)))
-      (λ m h gs y g. subst (λ (m : ℕ). Exact n m (suc m) nobody e_atom (Image (x.generator_call p w gs x.absent) IsClosed) (shut lparen (into (x.generator_call p w gs x.absent) (closing rparen (inner reach.Any))))) (omega (arith, h))
-      (shut_by lparen (mapped (x.generator_call p w gs x.absent) (closed_exact n))))
+      (λ m h gs y g. subst (λ (m : ℕ). Exact n m (suc m) nobody e_atom (Image (x.generator_call p w gs x.absent) IsClosed) (into (x.generator_call p w gs x.absent) (closing rparen (inner reach.Any)))) (omega (arith, h))
+      (widen (λ u h. refl) (mapped (x.generator_call p w gs x.absent) (closed_exact n))))
 
   pub arguments_exact : (n : ℕ) (p : Place) (w : List ℕ) → Exact n e (suc e) nobody e_atom (RawArguments p w) (arguments (suc e) inner p w)
   unfolding arguments
-  arguments_exact n p w = start (symbol_class s.CloseParenthesis) (λ a. refl) (λ a. refl) (λ a z. r.sealed_exact n (suc e) nobody lparen (x.call p w x.no_exs))
+  arguments_exact n p w = start (symbol_class s.CloseParenthesis) (λ a. refl) (λ a. refl) (λ a z. widen (λ u h. refl) (none_after (x.call p w x.no_exs)))
       (next (list_exact n e inner any range (either rparen nobody) symbol_fresh.1)
       (λ es. r.by_exact n n e e (suc e) (omega arith) (either comma e_any) e_atom (if_generators es k_where) (λ gs y. AfterWhere p w gs) (λ z. mark s.CloseParenthesis ⋅ AfterList p w es z)
       (λ gs y. after_where (suc e) inner p w gs) (must rparen >>= λ c. after_list (suc e) inner p w es)

@@ -13,7 +13,7 @@ use Rattle.ms_syntax.specs.declared.tree.Operator.TheVariants as o
 use Rattle.ms_syntax.specs.declared.tree.Sign.{Sign}
 use Rattle.ms_syntax.specs.declared.tree.Sign.TheVariants as g
 use Rattle.ms_syntax.specs.Grammar.{operands, sign_of, mark_of, truth_of}
-use Rattle.ms_syntax.specs.Kind.{symbol_number, keyword_number}
+use Rattle.ms_syntax.specs.Token.{symbol_number, keyword_number}
 use Rattle.ms_expressions.specs.Kinds.{a_number, a_text, a_name, a_truth, a_sign, when, symbol, keyword, operator, only, infix_of}
 
 -- f takes the tokens t

@@ -15,16 +15,16 @@ use Rattle.ms_expressions.specs.declared.reach.Reach.{Reach}
 use Rattle.ms_expressions.specs.declared.reach.Reach.TheVariants as reach
 use Rattle.ms_expressions.specs.Reading.{Out, bad, deep, Parser, ◌>>=◌, ok, and_then, pick, front, after, pure, by, must, into, skip, closing}
 use Rattle.ms_expressions.specs.Kinds.{symbol, keyword}
-use Rattle.ms_expressions.specs.Rules.{past_declaration, past_name, index_sets, set_base, base, marked, kind, note_arguments, note_rest, notes, value, declared, declaration, more_locals, locals}
+use Rattle.ms_expressions.specs.Rules.{index_sets, set_base, base, marked, kind, note_arguments, note_rest, notes, value, declared, declaration, more_locals, locals}
 use Rattle.ms_parser.proofs.Classes.{symbol_class, keyword_class}
 use Rattle.ms_parser.proofs.Exact as e
-use Rattle.ms_parser.proofs.Exact.{Exact, Seq, Just, Cases, Stops, nobody, append_nil, extend, stops_nobody}
-use Rattle.ms_parser.proofs.Choices.{either, some_or}
+use Rattle.ms_parser.proofs.Exact.{widen, loosen, Exact, Seq, Just, Cases, Stops, nobody, append_nil, extend, stops_nobody}
+use Rattle.ms_parser.proofs.Choices.{either, either_second, either_less, some_or}
 use Rattle.ms_parser.proofs.Read as r
-use Rattle.ms_parser.proofs.Parts.{Pair, Image, Start, Has, token_at, some_place, the_has, has_closing, next, both, mapped, retold, none_after, behind, closed_by, shut_by, start, start_open, clear_of, step_of}
-use Rattle.ms_parser.proofs.Lists.{must_open, restop, repeat, listing, placed_exact}
-use Rattle.ms_parser.proofs.Enclosed.{e_any, e_range, Fresh, nobody_fresh, symbol_fresh, IsAt, has_zero, list_exact}
-use Rattle.ms_parser.proofs.Bases.{split, regroup, stop_all, past_declaration_all, IsWord, word_exact, Sets, sets_exact, IsBase, Word_only, RawSetBase, base_to, base_from, FreshBase, FreshKind, nobody_fresh_base, IsMarked, marked_to, marked_from, IsKind, kind_of, plain_kind, kind_to, kind_from, has_sets}
+use Rattle.ms_parser.proofs.Parts.{Pair, Image, Start, Has, token_at, some_place, the_has, has_closing, next, both, mapped, retold, none_after, behind, closed_by, start, start_open, clear_of, step_of}
+use Rattle.ms_parser.proofs.Lists.{must_open, repeat, listing, placed_exact}
+use Rattle.ms_parser.proofs.Enclosed.{e_atom, atom_in_tier, e_any, e_range, Fresh, nobody_fresh, symbol_fresh, IsAt, has_zero, list_exact}
+use Rattle.ms_parser.proofs.Bases.{split, regroup, IsWord, word_exact, Sets, sets_exact, IsBase, Word_only, RawSetBase, base_to, base_from, FreshBase, FreshKind, nobody_fresh_base, IsMarked, marked_to, marked_from, IsKind, kind_of, plain_kind, kind_to, kind_from, has_sets}
 
 -- ---- notes
 
@@ -61,8 +61,15 @@ has_arguments = has_closing (tok.Symbol s.CloseParenthesis) (x.ex has_zero.0 x.n
 abbrev pub IsDeclared : List ℕ × (Notes × Maybe) → Tokens → Type 0
 IsDeclared = Pair IsWord (Pair WritesNotes WritesValue)
 
+-- what a declaration may go on with
 abbrev pub e_declared : Token → Bool
-e_declared = either past_declaration nobody
+e_declared = either (symbol s.Equal) (either (symbol s.ColonColon) e_any)
+
+pub declared_any : (u : Token) → e_declared u ≡ false → e_any u ≡ false
+declared_any u h = either_second (symbol s.ColonColon) e_any u (either_second (symbol s.Equal) (either (symbol s.ColonColon) e_any) u h)
+
+declared_value : (u : Token) → e_declared u ≡ false → either (symbol s.Equal) (either (symbol s.ColonColon) e_atom) u ≡ false
+declared_value u h = either_less (symbol s.Equal) (either (symbol s.ColonColon) e_any) (either (symbol s.ColonColon) e_atom) u (either_less (symbol s.ColonColon) e_any e_atom u (atom_in_tier 10 u)) h
 
 abbrev pub declaration_of : Place × (Kd × (List ℕ × (Notes × Maybe))) → Decl
 declaration_of r = x.declare r.0 r.1.0 r.1.1.0 r.1.1.1.0 r.1.1.1.1
@@ -147,41 +154,32 @@ module _ (d : ℕ) (inner inmost : Reach → Parser Ex) (any : (n : ℕ) (I : To
       sets_at : (n l : ℕ) → d ≡ suc l → Exact n l (suc l) nobody nobody Sets (index_sets inmost)
       sets_at n l h = sets_exact l inmost (range2 l h) n
 
-  -- what may not stand behind a note; it may be another note, and it may not be a bracket
-  module _ (past : Token → Option (Unit {0})) (stops : past (tok.Symbol s.OpenParenthesis) ≡ Some tt) (goes : past (tok.Symbol s.ColonColon) ≡ None) where
-    bracket_stops : (u : Token) → either past (either (symbol s.OpenParenthesis) nobody) u ≡ either past nobody u
-    bracket_stops = stop_all past (either (symbol s.OpenParenthesis) nobody) (λ u h. at_case u h (symbol s.OpenParenthesis u) refl)
-      where
-        at_case : (u : Token) → past u ≡ None → (q : Option (Unit {0})) → symbol s.OpenParenthesis u ≡ q → some_or q false ≡ false
-        at_case u h None g = refl
-        at_case u h (Some a) g = let no : Some tt ≡ None = sym stops ∙ ap past (sym ((symbol_class s.OpenParenthesis).is u a g)) ∙ h in absurd (cc)
+  note_arguments_exact : (n : ℕ) → Exact n d d nobody e_atom WritesArguments (note_arguments d inner inmost)
+  unfolding note_arguments
+  note_arguments_exact n = retold arguments_to arguments_from
+      (start_open (symbol_class s.OpenParenthesis) (λ a. refl) (λ a. refl) (λ a z. has_arguments)
+      (λ l h a z. widen (λ u k. refl) (closed_by (symbol_class s.CloseParenthesis) refl refl (list_exact n l inmost (any2 l h) (range2 l h) nobody nobody_fresh)))
+      (none_after x.no_exs))
 
-    note_arguments_exact : (n : ℕ) → Exact n d d nobody (either past nobody) WritesArguments (note_arguments d inner inmost past)
-    unfolding note_arguments
-    note_arguments_exact n = retold arguments_to arguments_from
-        (start_open (symbol_class s.OpenParenthesis) (λ a. refl) (λ a. refl) (λ a z. has_arguments)
-        (λ l h a z. shut_by past (closed_by (symbol_class s.CloseParenthesis) refl refl (list_exact n l inmost (any2 l h) (range2 l h) nobody nobody_fresh)))
-        (restop bracket_stops (r.sealed_exact n d (either (symbol s.OpenParenthesis) nobody) past x.no_exs)))
+  note_exact : (n : ℕ) (p : Place) → Exact n d d nobody e_atom (IsNote p) (note_rest d inner inmost p)
+  unfolding note_rest
+  note_exact n p = mapped {B = Place × List ℕ × Exs} (λ r. (p, r.0, r.1)) (both (word_exact n d nobody (λ w. refl)) (note_arguments_exact n))
 
-    note_exact : (n : ℕ) (p : Place) → Exact n d d nobody (either past nobody) (IsNote p) (note_rest d inner inmost past p)
-    unfolding note_rest
-    note_exact n p = mapped {B = Place × List ℕ × Exs} (λ r. (p, r.0, r.1)) (both (word_exact n d nobody (λ w. refl)) (note_arguments_exact n))
+  -- where none of I may come after the last
+  pub notes_exact : (I : Token → Bool) → I (tok.Symbol s.ColonColon) ≡ false → ((u : Token) → I u ≡ false → e_atom u ≡ false) → (n : ℕ) → Exact n d d I (either (symbol s.ColonColon) I) WritesNotes (notes d inner inmost)
+  unfolding notes
+  notes_exact I goes less n = listing (symbol_class s.ColonColon) (λ a p. IsNote p) notes_of WritesNotes (λ w h. h) (λ w h. h) (λ e es w a p g. note_in e es w p g) (λ e es w g. note_out e es w g) notes_back
+      (repeat (symbol_class s.ColonColon) (λ a. goes) (λ a. refl) (λ l a z. widen less (note_exact l z)) n)
 
-    pub notes_exact : (n : ℕ) → Exact n d d (either past nobody) (either (symbol s.ColonColon) (either past nobody)) WritesNotes (notes d inner inmost past)
-    unfolding notes
-    notes_exact n = listing (symbol_class s.ColonColon) (λ a p. IsNote p) notes_of WritesNotes (λ w h. h) (λ w h. h) (λ e es w a p g. note_in e es w p g) (λ e es w g. note_out e es w g) notes_back
-        (repeat (symbol_class s.ColonColon) (λ a. ap (λ q. some_or q false) goes) (λ a. refl) (λ l a z. note_exact l z) n)
-
-  value_exact : (n : ℕ) → Exact n d d (either (symbol s.ColonColon) (either past_name nobody)) e_declared WritesValue (value d inner inmost)
+  value_exact : (n : ℕ) → Exact n d d (either (symbol s.ColonColon) e_atom) e_declared WritesValue (value d inner inmost)
   unfolding value
   value_exact n = retold value_to value_from
-      (start (symbol_class s.Equal) (λ a. refl) (λ a. refl) (λ a z. restop (past_declaration_all e_any refl refl) (shut_by past_declaration (mapped x.present (any n nobody nobody_fresh))))
-      (restop (past_declaration_all (either (symbol s.Equal) (either (symbol s.ColonColon) (either past_name nobody))) refl refl)
-      (r.sealed_exact n d (either (symbol s.Equal) (either (symbol s.ColonColon) (either past_name nobody))) past_declaration x.absent)))
+      (start (symbol_class s.Equal) (λ a. refl) (λ a. refl) (λ a z. widen declared_any (mapped x.present (any n nobody nobody_fresh)))
+      (loosen declared_value (none_after x.absent)))
 
   pub declared_exact : (n : ℕ) → Exact n d d nobody e_declared IsDeclared (declared d inner inmost)
   unfolding declared
-  declared_exact n = both (shut_by past_name (word_exact n d nobody (λ w. refl))) (both (notes_exact past_name refl refl n) (value_exact n))
+  declared_exact n = both (widen (λ u h. refl) (word_exact n d nobody (λ w. refl))) (both (notes_exact e_atom refl (λ u h. h) n) (value_exact n))
 
   pub declaration_exact : (n : ℕ) (I : Token → Bool) → FreshKind I → Exact n d d I e_declared WritesDecl (declaration d inner inmost)
   unfolding declaration
@@ -231,11 +229,12 @@ module _ {A : Type 0} {d1 d2 : ℕ} {I E : Token → Bool} {G : A → Tokens →
   on_nothing = record {
     witness = (one.witness.0, one.witness.1, part one.witness.0 one.witness.1 one.witness.2);
     starts = λ x w r g halt. begins x w r g;
-    sound = λ ts x r fits s h. let f = one.sound ts x r fits s h in record { front = f.front; whole = f.whole; written = part x f.front f.written; stops = f.stops; even = f.even };
+    sound = λ ts x r fits h. let f = one.sound ts x r fits h in record { front = f.front; whole = f.whole; written = part x f.front f.written; even = f.even };
     right = λ x w r fits g halt. absurd (no_more x w r fits g);
-    wrong = λ ts k fits s h. let f = one.wrong ts k fits s h in record { front = f.front; rest = f.rest; whole = f.whole; count = f.count; value = f.value; more = f.more; written = part f.value (f.front ++ f.more) f.written; even = f.even };
-    passed = λ ts k fits s h. let f = one.passed ts k fits s h in
+    wrong = λ ts k fits h. let f = one.wrong ts k fits h in record { front = f.front; rest = f.rest; whole = f.whole; count = f.count; value = f.value; more = f.more; written = part f.value (f.front ++ f.more) f.written; even = f.even };
+    passed = λ ts k fits h. let f = one.passed ts k fits h in
         record { front = f.front; opening = f.opening; rest = f.rest; whole = f.whole; count = f.count; value = f.value; more = f.more; written = part f.value (f.front ++ f.opening ∷ f.more) f.written; edge = f.edge; opener = f.opener };
+    steady = one.steady;
     frozen = one.frozen;
   }
 
@@ -292,7 +291,7 @@ module _ (d : ℕ) (inner inmost : Reach → Parser Ex) (one : (n : ℕ) (I : To
     where
       after_item : ((t : Tokens) → length t ≤ j → length t ≤ n → more_locals d inner inmost j t ≡ more_locals d inner inmost n t) → (q : Out Decl) → declaration d inner inmost ts ≡ q → and_then q (λ d2. into {B = List Decl × Bool} (with_first d2) (more_locals d inner inmost j)) ≡ and_then q (λ d2. into {B = List Decl × Bool} (with_first d2) (more_locals d inner inmost n))
       after_item again (ok d2 t) g =
-          let f = (one (length ts) nobody ((nobody_fresh, refl, refl, refl, refl, refl), refl, refl, refl)).sound ts d2 t (omega arith) (stops_nobody ts) g in
+          let f = (one (length ts) nobody ((nobody_fresh, refl, refl, refl, refl, refl), refl, refl, refl)).sound ts d2 t (omega arith) g in
           let less : length t ≤ length ts = omega (arith, ap length f.whole, length-append f.front t) in
           ap (λ o. and_then o (λ r. pure (with_first d2 r))) (again t (omega (arith, less, h)) (omega (arith, less, i)))
       after_item again (bad b) g = refl

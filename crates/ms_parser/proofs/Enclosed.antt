@@ -13,11 +13,11 @@ use Rattle.ms_expressions.specs.declared.reach.Reach.{Reach}
 use Rattle.ms_expressions.specs.declared.reach.Reach.TheVariants as reach
 use Rattle.ms_expressions.specs.Reading.{Parser, ◌>>=◌, ok, and_then, pick, front, after, pure, by, must, into, closing}
 use Rattle.ms_expressions.specs.Kinds.{a_name, symbol, keyword, infix_of}
-use Rattle.ms_expressions.specs.Rules.{a_binder, more_names, names, more, list, listed, second, subscript, generator, more_generators, generators, condition, generated, array_rest, more_rows, rows_rest, set_rest, paren_rest, arm, arms, if_rest}
+use Rattle.ms_expressions.specs.Rules.{a_binder, more_names, names, more, list, listed, second, subscript, generator, more_generators, generators, condition, generated, array_rest, more_rows, row_list, rows_rest, set_rest, paren_rest, arm, arms, if_rest}
 use Rattle.ms_parser.proofs.Classes.{Class, name_class, symbol_class, keyword_class}
-use Rattle.ms_parser.proofs.Exact.{Exact, Seq, Just, One, Many, nobody, append_nil, extend}
-use Rattle.ms_parser.proofs.Choices.{either}
-use Rattle.ms_parser.proofs.Parts.{Pair, Image, Start, Has, token_at, the_has, has_pair, has_closing, has_skip, has_image, next, both, mapped, retold, none_after, take, behind, closed_by, shut_by, start}
+use Rattle.ms_parser.proofs.Exact.{widen, Exact, Seq, Just, One, Many, nobody, append_nil, extend}
+use Rattle.ms_parser.proofs.Choices.{either, either_second}
+use Rattle.ms_parser.proofs.Parts.{Pair, Image, Start, Has, token_at, the_has, has_pair, has_closing, has_skip, has_image, next, both, mapped, retold, none_after, take, behind, closed_by, start}
 use Rattle.ms_parser.proofs.Lists.{repeat, listing, placeless, placing}
 
 -- ---- what may not come next
@@ -37,6 +37,10 @@ e_any = e_tier 10
 
 abbrev pub e_range : Token → Bool
 e_range = e_tier 4
+
+pub atom_in_tier : (h : ℕ) (u : Token) → e_tier h u ≡ false → e_atom u ≡ false
+atom_in_tier zero u h = either_second (symbol s.OpenBracket) e_atom u h
+atom_in_tier (suc k) u h = atom_in_tier k u (either_second (infix_of (suc (suc k))) (e_tier k) u h)
 
 abbrev pub comma : Token → Option (Unit {0})
 comma = symbol s.Comma
@@ -133,14 +137,15 @@ abbrev pub IsGenerator : Names × Ex → Tokens → Type 0
 IsGenerator = Pair WritesNames (λ e. word k.In ⋅ IsAt 6 e)
 
 module _ (n d : ℕ) (inner : Reach → Parser Ex) (any : (n : ℕ) (I : Token → Bool) → Fresh I → Exact n d d I e_any Writes (inner reach.Any)) (range : (n : ℕ) (I : Token → Bool) → Fresh I → Exact n d d I e_range (IsAt 6) (inner reach.Range)) where
-  pub more_exact : Exact n d d e_any (either comma e_any) WritesMore (more inner)
+  -- where none of I may come after the last
+  pub more_exact : (I : Token → Bool) → I (tok.Symbol s.Comma) ≡ false → ((u : Token) → I u ≡ false → e_any u ≡ false) → Exact n d d I (either comma I) WritesMore (more inner)
   unfolding more
-  more_exact = listing (symbol_class s.Comma) (λ a p. Writes) exs_of WritesMore (λ w h. h) (λ w h. h) (λ e es w a p g. placeless w p g) (λ e es w g. placing w g) exs_back
-      (repeat (symbol_class s.Comma) (λ a. refl) (λ a. refl) (λ m a z. any m nobody nobody_fresh) n)
+  more_exact I clear less = listing (symbol_class s.Comma) (λ a p. Writes) exs_of WritesMore (λ w h. h) (λ w h. h) (λ e es w a p g. placeless w p g) (λ e es w g. placing w g) exs_back
+      (repeat (symbol_class s.Comma) (λ a. clear) (λ a. refl) (λ m a z. widen less (any m nobody nobody_fresh)) n)
 
   pub list_exact : (I : Token → Bool) → Fresh I → Exact n d d I (either comma e_any) WritesSome (list inner)
   unfolding list
-  list_exact I fresh = built WritesSome (λ r. x.ex r.0 r.1) (λ r w g. g) some_from (both (any n I fresh) more_exact)
+  list_exact I fresh = built WritesSome (λ r. x.ex r.0 r.1) (λ r w g. g) some_from (both (any n I fresh) (more_exact e_any refl (λ u h. h)))
 
   -- ---- an expression behind a token, or nothing, and then what closes it
   module _ {g f : Token → Option (Unit {0})} {t z : Token} (c : Class g (λ a. t)) (k : Class f (λ a. z)) (W : Maybe → Tokens → Type 0)
@@ -179,7 +184,7 @@ module _ (n d : ℕ) (inner : Reach → Parser Ex) (any : (n : ℕ) (I : Token �
 
   pub subscript_exact : Exact n d (suc d) nobody e_atom IsSubscript (subscript inner)
   unfolding subscript second
-  subscript_exact = shut_by (symbol s.OpenParenthesis) (both (any n nobody nobody_fresh)
+  subscript_exact = widen (λ u h. refl) (both (any n nobody nobody_fresh)
       (optional_exact (symbol_class s.Comma) (symbol_class s.CloseBracket) WritesSecond (λ w h. h) (λ w h. h) (λ e w h. h) (λ e w h. h) e_any refl refl refl refl refl))
 
   -- ---- generators
@@ -198,7 +203,7 @@ IsGenerated = Pair WritesGens (λ c. WritesWhere c ⋅ mark s.CloseBracket)
 abbrev pub RawArray : Place → Ex → Tokens → Type 0
 RawArray p = Start {A = Unit {0}} (λ a. tok.Symbol s.CloseBracket) (λ a z. Just (x.array p x.no_exs))
     (Seq Writes (λ e. Start {A = Unit {0}} (λ a. tok.Symbol s.Bar) (λ a z. Image (λ g. x.comprehension p e g.0 g.1) IsGenerated)
-    (Start {A = Unit {0}} (λ a. tok.Symbol s.Comma) (λ a z. Image (λ es. x.array p (x.ex e es)) (λ es. WritesSome es ⋅ mark s.CloseBracket)) (λ r. mark s.CloseBracket ⋅ Just (x.array p (x.ex e x.no_exs)) r))))
+    (Image (λ es. x.array p (x.ex e es)) (λ es. WritesMore es ⋅ mark s.CloseBracket))))
 
 -- an opening token before what follows it, of an atom
 pub array_to : (p : Place) (z : Ex) (w u v : Tokens) → w ≡ u ++ v → at p (tok.Symbol s.OpenBracket) u → RawArray p z v → IsAt 0 z w
@@ -206,29 +211,13 @@ array_to p z w u v q o (inl (a, r, (b, c, h, (y, m, i, j), (l, e)))) =
     subst (λ (k : Ex). IsAt 0 k w) (sym l) (omega arith, (u, v, q, o, ([], v, refl, refl, (y, h ∙ ap (λ k. b ++ k) e ∙ append_nil b ∙ m, i))))
 array_to p z w u v q o (inr (e, b, c, h, g, inl (a, r, (b2, c2, h2, (y, m, i, j), (gs, l, made))))) =
     subst (λ (k : Ex). IsAt 0 k w) (sym l) (omega arith, (u, v, q, o, (b, c, h, g, (b2, c2, h2, (y, m, i), made))))
-array_to p z w u v q o (inr (e, b, c, h, g, inr (inl (a, r, (b2, c2, h2, (y, m, i, j), (es, l, (b3, c3, h3, some, end))))))) =
-    subst (λ (k : Ex). IsAt 0 k w) (sym l) (omega arith, (u, v, q, o, several e es b c b2 b3 c3 v h (h2 ∙ ap (λ k. b2 ++ k) h3) g (y, m, i) some end))
-  where
-    several : (e : Ex) (es : Exs) (b c b2 b3 c3 v : Tokens) → v ≡ b ++ c → c ≡ b2 ++ (b3 ++ c3) → Writes e b → mark s.Comma b2 → WritesSome es b3 → mark s.CloseBracket c3 → (WritesList (x.ex e es) ⋅ mark s.CloseBracket) v
-    several e x.no_exs b c b2 b3 c3 v h i g m some end = absurd some
-    several e (x.ex e2 es) b c b2 b3 c3 v h i g m some end =
-        (b ++ (b2 ++ b3), c3, h ∙ ap (λ k. b ++ k) (i ∙ sym (append_assoc b2 b3 c3)) ∙ sym (append_assoc b (b2 ++ b3) c3), (b, b2 ++ b3, refl, g, (b2, b3, refl, m, some)), end)
-array_to p z w u v q o (inr (e, b, c, h, g, inr (inr (b2, c2, h2, end, (l, r))))) =
-    subst (λ (k : Ex). IsAt 0 k w) (sym l) (omega arith, (u, v, q, o, (b, c, h, (b, [], sym (append_nil b), g, refl), subst (mark s.CloseBracket) (sym (h2 ∙ ap (λ k. b2 ++ k) r ∙ append_nil b2)) end)))
+array_to p z w u v q o (inr (e, b, c, h, g, inr (es, l, (b2, c2, h2, more, end)))) =
+    subst (λ (k : Ex). IsAt 0 k w) (sym l) (omega arith, (u, v, q, o, (b ++ b2, c2, h ∙ ap (λ k. b ++ k) h2 ∙ sym (append_assoc b b2 c2), (b, b2, refl, g, more), end)))
 
 pub array_from : (p : Place) (es : Exs) (v : Tokens) → (WritesList es ⋅ mark s.CloseBracket) v → RawArray p (x.array p es) v
 array_from p x.no_exs v (b, c, h, n, (y, m, i)) = inl (tt, y.place, (y ∷ [], [], h ∙ ap (λ k. k ++ c) n ∙ m, (y, refl, i, refl), (refl, refl)))
-array_from p (x.ex e x.no_exs) v (b, c, h, (b2, c2, h2, g, n), end) =
-    inr (e, b, c, h ∙ ap (λ k. k ++ c) refl, subst (Writes e) (sym (h2 ∙ ap (λ k. b2 ++ k) n ∙ append_nil b2)) g, inr (inr (c, [], sym (append_nil c), end, (refl, refl))))
-array_from p (x.ex e (x.ex e2 es)) v (b, c, h, (b2, c2, h2, g, (b3, c3, h3, (y, m, i), some)), end) =
-    inr (
-      e,
-      b2,
-      c2 ++ c,
-      h ∙ ap (λ k. k ++ c) h2 ∙ append_assoc b2 c2 c,
-      g,
-      inr (inl (tt, y.place, (b3, c3 ++ c, ap (λ k. k ++ c) h3 ∙ append_assoc b3 c3 c, (y, m, i, refl), (x.ex e2 es, refl, (c3, c, refl, some, end))))),
-    )
+array_from p (x.ex e es) v (b, c, h, (b2, c2, h2, g, more), end) =
+    inr (e, b2, c2 ++ c, h ∙ ap (λ k. k ++ c) h2 ∙ append_assoc b2 c2 c, g, inr (es, refl, (c2, c, refl, more, end)))
 
 pub comprehension_from : (p : Place) (e : Ex) (gs : Gens) (c : Maybe) (v : Tokens) → (Writes e ⋅ mark s.Bar ⋅ IsGenerated (gs, c)) v → RawArray p (x.comprehension p e gs c) v
 comprehension_from p e gs c v (b, d2, h, g, (b2, c2, h2, (y, m, i), made)) = inr (e, b, d2, h, g, inl (tt, y.place, (b2, c2, h2, (y, m, i, refl), ((gs, c), refl, made))))
@@ -240,18 +229,21 @@ pub rows_back : (l : Rows) → (rs : List Exs) × (rows_of rs ≡ l)
 rows_back x.no_rows = ([], refl)
 rows_back (x.row r l) = let b = rows_back l in (r ∷ b.0, ap (x.row r) b.1)
 
+abbrev pub row_of : Exs × Rows → Rows
+row_of r = x.row r.0 r.1
+
 abbrev pub RawRows : Place → Ex → Tokens → Type 0
-RawRows p = Start {A = Unit {0}} (λ a. tok.Symbol s.CloseRows) (λ a z. Just (x.rows p x.no_rows)) (Image (λ r. x.rows p (x.row r.0 r.1)) (Pair WritesSome (λ rs. WritesMoreRows rs ⋅ mark s.CloseRows)))
+RawRows p = Start {A = Unit {0}} (λ a. tok.Symbol s.CloseRows) (λ a z. Just (x.rows p x.no_rows)) (Image (x.rows p) (λ rs. Image row_of (Pair WritesSome WritesMoreRows) rs ⋅ mark s.CloseRows))
 
 pub rows_to : (p : Place) (z : Ex) (w u v : Tokens) → w ≡ u ++ v → at p (tok.Symbol s.OpenRows) u → RawRows p z v → IsAt 0 z w
 rows_to p z w u v q o (inl (a, r, (b, c, h, (y, m, i, j), (l, e)))) =
     subst (λ (k : Ex). IsAt 0 k w) (sym l) (omega arith, (u, v, q, o, ([], v, refl, refl, (y, h ∙ ap (λ k. b ++ k) e ∙ append_nil b ∙ m, i))))
-rows_to p z w u v q o (inr (r, l, (b, c, h, g, (b2, c2, h2, g2, end)))) =
-    subst (λ (k : Ex). IsAt 0 k w) (sym l) (omega arith, (u, v, q, o, (b ++ b2, c2, h ∙ ap (λ k. b ++ k) h2 ∙ sym (append_assoc b b2 c2), (b, b2, refl, g, g2), end)))
+rows_to p z w u v q o (inr (rs, l, (b, c, h, (r, i, g), end))) =
+    subst (λ (k : Ex). IsAt 0 k w) (sym l) (omega arith, (u, v, q, o, (b, c, h, subst (λ (k : Rows). WritesRows k b) (sym i) g, end)))
 
 pub rows_from : (p : Place) (rs : Rows) (v : Tokens) → (WritesRows rs ⋅ mark s.CloseRows) v → RawRows p (x.rows p rs) v
 rows_from p x.no_rows v (b, c, h, n, (y, m, i)) = inl (tt, y.place, (y ∷ [], [], h ∙ ap (λ k. k ++ c) n ∙ m, (y, refl, i, refl), (refl, refl)))
-rows_from p (x.row r l) v (b, c, h, (b2, c2, h2, g, g2), end) = inr ((r, l), refl, (b2, c2 ++ c, h ∙ ap (λ k. k ++ c) h2 ∙ append_assoc b2 c2 c, g, (c2, c, refl, g2, end)))
+rows_from p (x.row r l) v (b, c, h, g, end) = inr (x.row r l, refl, (b, c, h, ((r, l), refl, g), end))
 
 pub has_rows : (p : Place) → Has (RawRows p)
 has_rows p = (x.rows p x.no_rows, token_at (tok.Symbol s.CloseRows) ∷ [], rows_from p x.no_rows (token_at (tok.Symbol s.CloseRows) ∷ []) ([], token_at (tok.Symbol s.CloseRows) ∷ [], refl, refl, the_has (tok.Symbol s.CloseRows)))
@@ -319,8 +311,8 @@ module _ (d : ℕ) (inner : Reach → Parser Ex) (any : (n : ℕ) (I : Token →
   array_exact n p = start (symbol_class s.CloseBracket) (λ a. refl) (λ a. refl) (λ a z. none_after (x.array p x.no_exs))
       (next (any n (either (symbol s.CloseBracket) nobody) symbol_fresh.0)
       (λ e. start (symbol_class s.Bar) (λ a. refl) (λ a. refl) (λ a z. mapped (λ g. x.comprehension p e g.0 g.1) (generated_exact n))
-      (start (symbol_class s.Comma) (λ a. refl) (λ a. refl) (λ a z. mapped (λ es. x.array p (x.ex e es)) (closed_by (symbol_class s.CloseBracket) refl refl (list_exact n d inner any range nobody nobody_fresh)))
-      (behind (symbol_class s.CloseBracket) refl refl (none_after (x.array p (x.ex e x.no_exs)))))))
+      (mapped (λ es. x.array p (x.ex e es)) (closed_by (symbol_class s.CloseBracket) refl refl
+      (more_exact n d inner any range (either (symbol s.Bar) e_any) refl (either_second (symbol s.Bar) e_any))))))
 
   -- ---- rows
 
@@ -330,9 +322,9 @@ module _ (d : ℕ) (inner : Reach → Parser Ex) (any : (n : ℕ) (I : Token →
       (repeat (symbol_class s.Bar) (λ a. refl) (λ a. refl) (λ m a z. list_exact m d inner any range nobody nobody_fresh) n)
 
   pub rows_exact : (n : ℕ) (p : Place) → Exact n d (suc d) nobody nobody (RawRows p) (rows_rest inner p)
-  unfolding rows_rest
+  unfolding rows_rest row_list
   rows_exact n p = start (symbol_class s.CloseRows) (λ a. refl) (λ a. refl) (λ a z. none_after (x.rows p x.no_rows))
-      (mapped (λ r. x.rows p (x.row r.0 r.1)) (both (list_exact n d inner any range (either (symbol s.CloseRows) nobody) symbol_fresh.3) (closed_by (symbol_class s.CloseRows) refl refl (more_rows_exact n))))
+      (mapped (x.rows p) (closed_by (symbol_class s.CloseRows) refl refl (mapped row_of (both (list_exact n d inner any range (either (symbol s.CloseRows) nobody) symbol_fresh.3) (more_rows_exact n)))))
 
   -- ---- sets
 

@@ -13,37 +13,23 @@ use Rattle.ms_syntax.specs.Tree as x
 use Rattle.ms_syntax.specs.Tree.{Names, Ex, Maybe, Kd, Notes, Params, Gl, It}
 use Rattle.ms_syntax.specs.Grammar.{Tokens, ◌⋅◌, the, at, from, BeginsAt, mark_of, Writes, WritesNames, WritesNotes, WritesDecl, WritesNameList, WritesElements, WritesParam, WritesMoreParams, WritesParamList, WritesParams, WritesGoal, WritesItem, mark}
 use Rattle.ms_expressions.specs.declared.reach.Reach.TheVariants as reach
-use Rattle.ms_expressions.specs.Reading.{pair, into, placed}
-use Rattle.ms_syntax.specs.Kind.{is_symbol, is_keyword}
+use Rattle.ms_expressions.specs.Reading.{Out, ok, bad, deep, and_then, ◌>>=◌, pure, pair, into, placed, many, separated}
+use Rattle.ms_syntax.specs.Token.{is_symbol, is_keyword}
 use Rattle.ms_expressions.specs.Kinds.{a_text, symbol, keyword, when}
-use Rattle.ms_expressions.specs.Rules.{a_word, past_declaration, notes, kind, under, a_string, past_condition, past_solve, if_name, name_list, last_value, elements, parameter, more_parameters, parameter_list, parameters, constrained, goal, solved}
+use Rattle.ms_expressions.specs.Rules.{a_word, kind, under}
+use Rattle.ms_expressions.specs.Rules as r2
+use Rattle.ms_parser.specs.Items.{any, notes, a_string, if_name, name_list, elements, parameter, parameter_list, parameters, goal}
 use Rattle.ms_parser.proofs.Classes.{text_class, symbol_class, keyword_class}
-use Rattle.ms_parser.proofs.Exact.{Exact, Seq, Just, One, Cases, Many, nobody, append_nil}
-use Rattle.ms_parser.proofs.Choices.{either}
+use Rattle.ms_parser.proofs.Exact.{extend, widen, loosen, Exact, Seq, Just, One, Cases, Many, nobody, append_nil}
+use Rattle.ms_parser.proofs.Choices.{either, either_second, either_less}
 use Rattle.ms_parser.proofs.Read as r
-use Rattle.ms_parser.proofs.Parts.{Pair, Image, Start, Has, token_at, the_has, next, both, mapped, retold, none_after, take, closed_by, shut_by, start}
-use Rattle.ms_parser.proofs.Lists.{must_open, restop, repeat, placed_exact}
-use Rattle.ms_parser.proofs.Enclosed.{comma, e_any, e_range, Fresh, nobody_fresh, symbol_fresh, IsAt, names_exact, built}
-use Rattle.ms_parser.proofs.Bases.{stop_all, symbol_of, or_true, beyond_not, past_declaration_all, IsWord, word_exact, IsKind, FreshKind, nobody_fresh_base}
-use Rattle.ms_parser.proofs.Decls.{e_declared, IsDeclared, kind_exact, notes_exact}
+use Rattle.ms_parser.proofs.Parts.{Pair, Image, Start, Has, token_at, the_has, next, both, mapped, retold, none_after, take, closed_by, start}
+use Rattle.ms_parser.proofs.Lists.{must_open, repeat, placed_exact}
+use Rattle.ms_parser.proofs.Enclosed.{e_atom, atom_in_tier, comma, e_any, e_range, Fresh, nobody_fresh, symbol_fresh, IsAt, names_exact, built}
+use Rattle.ms_parser.proofs.Bases.{IsWord, word_exact, IsKind, FreshKind, nobody_fresh_base}
+use Rattle.ms_parser.proofs.Decls.{declared_any, e_declared, IsDeclared, kind_exact, notes_exact}
 use Rattle.ms_parser.proofs.Nested.{under_exact}
 use Rattle.ms_parser.proofs.Levels.{atom_some}
-
--- ---- what may not follow
-
-keyword_of : (z : Keyword) (u : Token) → is_keyword z u ≡ true → u ≡ tok.Keyword z
-keyword_of z u h = (keyword_class z).is u tt (ap when h)
-
-past_condition_all : (I : Token → Bool) → I (tok.Symbol s.ColonColon) ≡ false → I (tok.Symbol s.Semicolon) ≡ false → I (tok.Symbol s.CloseBrace) ≡ false → (u : Token) → either past_condition I u ≡ either past_condition nobody u
-past_condition_all I a b c = stop_all past_condition I (λ u h. at_case u (or_true (is_symbol s.ColonColon u || is_symbol s.Semicolon u) (is_symbol s.CloseBrace u) (beyond_not (is_symbol s.ColonColon u || is_symbol s.Semicolon u || is_symbol s.CloseBrace u) h)))
-  where
-    at_first : (u : Token) → (is_symbol s.ColonColon u ≡ true) ⊎ (is_symbol s.Semicolon u ≡ true) → I u ≡ false
-    at_first u (inl h) = subst (λ (v : Token). I v ≡ false) (sym (symbol_of s.ColonColon u h)) a
-    at_first u (inr h) = subst (λ (v : Token). I v ≡ false) (sym (symbol_of s.Semicolon u h)) b
-
-    at_case : (u : Token) → ((is_symbol s.ColonColon u || is_symbol s.Semicolon u) ≡ true) ⊎ (is_symbol s.CloseBrace u ≡ true) → I u ≡ false
-    at_case u (inl h) = at_first u (or_true (is_symbol s.ColonColon u) (is_symbol s.Semicolon u) h)
-    at_case u (inr h) = subst (λ (v : Token). I v ≡ false) (sym (symbol_of s.CloseBrace u h)) c
 
 -- ---- parts of items
 
@@ -74,9 +60,9 @@ any_third l h n I fresh = let same : 198 ≡ l = omega (arith, h) in subst (λ (
 range_third : (l : ℕ) → 199 ≡ suc l → (n : ℕ) (I : Token → Bool) → Fresh I → Exact n l l I e_range (IsAt 6) (under 199 reach.Range)
 range_third l h n I fresh = let same : 198 ≡ l = omega (arith, h) in subst (λ (a : ℕ). Exact n a a I e_range (IsAt 6) (under 199 reach.Range)) same (under_exact 198 n I fresh).1
 
-pub last_value_exact : (n : ℕ) → Exact n 200 200 nobody e_declared Writes (last_value 200 (under 201) (under 200) (under 199))
-unfolding last_value
-last_value_exact n = restop (past_declaration_all e_any refl refl) (shut_by past_declaration (any_at n nobody nobody_fresh))
+-- an expression that an item ends with
+pub value_exact : (n : ℕ) → Exact n 200 200 nobody e_declared Writes any
+value_exact n = widen declared_any (any_at n nobody nobody_fresh)
 
 -- names of an enumeration
 abbrev Named_list : Names → Tokens → Type 0
@@ -110,11 +96,14 @@ elements_from : (z : Option Names) (w : Tokens) → WritesElements z w → RawEl
 elements_from None w g = inr (refl, g)
 elements_from (Some ns) w (u, v, q, (y, n, i), (b, b2, h, (y2, m1, t), g)) = inl (tt, y.place, (u, v, q, (y, n, i, refl), (ns, refl, ((tt, y2), b, b2, h, (m1, ap (symbol s.OpenBrace) t ∙ (symbol_class s.OpenBrace).has tt), g))))
 
-pub elements_exact : (n : ℕ) → Exact n 200 200 nobody e_declared WritesElements (elements 200 (under 201) (under 200) (under 199))
+pub elements_exact : (n : ℕ) → Exact n 200 200 nobody e_declared WritesElements elements
 unfolding elements
 elements_exact n = retold elements_to elements_from
-    (start (symbol_class s.Equal) (λ a. refl) (λ a. refl) (λ a z. shut_by past_declaration (mapped Some (must_open (symbol_class s.OpenBrace) n nobody (λ a. refl) (λ a. refl) tt nobody (λ c. Named_list) (λ c. name_list) 200 (λ c. has_names) (λ l h c. name_list_exact n l))))
-    (restop (past_declaration_all (either (symbol s.Equal) nobody) refl refl) (r.sealed_exact n 200 (either (symbol s.Equal) nobody) past_declaration None)))
+    (start (symbol_class s.Equal) (λ a. refl) (λ a. refl) (λ a z. widen (λ u h. refl) (mapped Some (must_open (symbol_class s.OpenBrace) n nobody (λ a. refl) (λ a. refl) tt nobody (λ c. Named_list) (λ c. name_list) 200 (λ c. has_names) (λ l h c. name_list_exact n l))))
+    (loosen declared_equal (none_after {A = Option Names} None)))
+  where
+    declared_equal : (u : Token) → e_declared u ≡ false → either (symbol s.Equal) nobody u ≡ false
+    declared_equal u h = either_less (symbol s.Equal) (either (symbol s.ColonColon) e_any) nobody u (λ k. refl) h
 
 -- parameters
 abbrev RawParam : Place × Kd × List ℕ → Tokens → Type 0
@@ -125,16 +114,15 @@ param_some r ([], [], q, g, (y, n, t)) = cc
 param_some r ([], z ∷ v, q, g, h) = cc
 param_some r (z ∷ u, v, q, g, h) = cc
 
-parameter_exact : (n l : ℕ) → 200 ≡ suc l → (I : Token → Bool) → FreshKind I → Exact n l l I nobody WritesParam (parameter 200 (under 201) (under 200) (under 199))
-unfolding parameter
+parameter_exact : (n l : ℕ) → 200 ≡ suc l → (I : Token → Bool) → FreshKind I → Exact n l l I nobody WritesParam parameter
+unfolding r2.parameter
 parameter_exact n l h I fresh =
     let same : 199 ≡ l = omega (arith, h) in
     subst (λ (a : ℕ). Exact n a a I nobody WritesParam (into {B = Place × Kd × List ℕ} (λ r. (r.0, r.1.0, r.1.1)) (placed (pair (kind 199 (under 200) (under 199)) a_word)))) same
     (built {B = Place × Kd × List ℕ} WritesParam (λ r. (r.0, r.1.0, r.1.1)) (λ r w g. g) (λ z w g. ((z.0, (z.1, z.2)), refl, g))
     (placed_exact param_some (both (kind_exact 199 (under 200) (under 199) (λ n I f. (under_exact 199 n I f).0) (λ n I f. (under_exact 199 n I f).1) any_third range_third n I fresh) (word_exact n 199 nobody (λ w. refl)))))
 
-more_params_exact : (n l : ℕ) → 200 ≡ suc l → Exact n l l nobody (either comma nobody) WritesMoreParams (more_parameters 200 (under 201) (under 200) (under 199))
-unfolding more_parameters
+more_params_exact : (n l : ℕ) → 200 ≡ suc l → Exact n l l nobody (either comma nobody) WritesMoreParams (many comma (λ a y. parameter))
 more_params_exact n l h = retold to from_more (repeat (symbol_class s.Comma) (λ a. refl) (λ a. refl) (λ j a z. parameter_exact j l h nobody (nobody_fresh_base, refl, refl, refl)) n)
   where
     to : (ps : Params) (w : Tokens) → Many comma (λ a y. WritesParam) ps w → WritesMoreParams ps w
@@ -151,8 +139,28 @@ Closed_list ps = WritesParamList ps ⋅ mark s.CloseParenthesis
 abbrev cons_of : (Place × Kd × List ℕ) × Params → Params
 cons_of r = r.0 ∷ r.1
 
+abbrev Separated : Params → Tokens → Type 0
+Separated = Image cons_of (Pair WritesParam WritesMoreParams)
+
+separated_exact : (n l : ℕ) → 200 ≡ suc l → (I : Token → Bool) → FreshKind I → Exact n l l I (either comma nobody) Separated (separated comma parameter)
+unfolding separated
+separated_exact n l h I fresh =
+    extend n l l I (either comma nobody) Separated (separated comma parameter) (into cons_of (pair parameter (many comma (λ a y. parameter)))) (λ ts fits. same (parameter ts))
+    (mapped cons_of (both (parameter_exact n l h I fresh) (more_params_exact n l h)))
+  where
+    joined : (p : Place × Kd × List ℕ) (o : Out Params) → and_then o (λ ps. pure (p ∷ ps)) ≡ and_then (and_then o (λ ps. pure {A = (Place × Kd × List ℕ) × Params} (p, ps))) (λ r. pure (cons_of r))
+    joined p (ok ps r) = refl
+    joined p (bad n) = refl
+    joined p (deep n) = refl
+
+    same : (o : Out (Place × Kd × List ℕ)) → and_then o (λ p. many comma (λ a y. parameter) >>= λ ps. pure (p ∷ ps))
+        ≡ and_then (and_then o (λ p. many comma (λ a y. parameter) >>= λ ps. pure {A = (Place × Kd × List ℕ) × Params} (p, ps))) (λ r. pure (cons_of r))
+    same (ok p r) = joined p (many comma (λ a y. parameter) r)
+    same (bad n) = refl
+    same (deep n) = refl
+
 abbrev RawParams : Params → Tokens → Type 0
-RawParams = Start {A = Unit {0}} (λ a. tok.Symbol s.CloseParenthesis) (λ a p. Just []) (λ ps. Image cons_of (Pair WritesParam WritesMoreParams) ps ⋅ mark s.CloseParenthesis)
+RawParams = Start {A = Unit {0}} (λ a. tok.Symbol s.CloseParenthesis) (λ a p. Just []) (λ ps. Separated ps ⋅ mark s.CloseParenthesis)
 
 params_to : (z : Params) (w : Tokens) → RawParams z w → Closed_list z w
 params_to z w (inl (a, p, (u, v, q, (y, n, i, l), (j, o)))) = subst (λ (b : Params). Closed_list b w) (sym j) ([], w, refl, refl, (y, q ∙ ap (λ b. u ++ b) o ∙ append_nil u ∙ n, i))
@@ -165,17 +173,17 @@ params_from (p ∷ ps) w (u, v, q, g, end) = inr (u, v, q, ((p, ps), refl, g), e
 paren_kind : FreshKind (either (symbol s.CloseParenthesis) nobody)
 paren_kind = ((symbol_fresh.1, refl, refl, refl, refl, refl), refl, refl, refl)
 
-list_in_exact : (n l : ℕ) → 200 ≡ suc l → Exact n l (suc l) nobody nobody Closed_list (parameter_list 200 (under 201) (under 200) (under 199))
+list_in_exact : (n l : ℕ) → 200 ≡ suc l → Exact n l (suc l) nobody nobody Closed_list parameter_list
 unfolding parameter_list
 list_in_exact n l h = retold params_to params_from (start (symbol_class s.CloseParenthesis) (λ a. refl) (λ a. refl) (λ a z. none_after {A = Params} [])
-    (closed_by (symbol_class s.CloseParenthesis) refl refl (mapped cons_of (both (parameter_exact n l h (either (symbol s.CloseParenthesis) nobody) paren_kind) (more_params_exact n l h)))))
+    (closed_by (symbol_class s.CloseParenthesis) refl refl (separated_exact n l h (either (symbol s.CloseParenthesis) nobody) paren_kind)))
 
 has_params : Has Closed_list
 has_params = ([], token_at (tok.Symbol s.CloseParenthesis) ∷ [], ([], token_at (tok.Symbol s.CloseParenthesis) ∷ [], refl, refl, the_has (tok.Symbol s.CloseParenthesis)))
 
-pub parameters_exact : (n : ℕ) → Exact n 200 200 nobody nobody WritesParams (parameters 200 (under 201) (under 200) (under 199))
+pub parameters_exact : (n : ℕ) → Exact n 200 200 nobody nobody WritesParams parameters
 unfolding parameters
-parameters_exact n = retold to from_params (must_open (symbol_class s.OpenParenthesis) n nobody (λ a. refl) (λ a. refl) tt nobody (λ c. Closed_list) (λ c. parameter_list 200 (under 201) (under 200) (under 199)) 200 (λ c. has_params) (λ l h c. list_in_exact n l h))
+parameters_exact n = retold to from_params (must_open (symbol_class s.OpenParenthesis) n nobody (λ a. refl) (λ a. refl) tt nobody (λ c. Closed_list) (λ c. parameter_list) 200 (λ c. has_params) (λ l h c. list_in_exact n l h))
   where
     to : (z : Params) (w : Tokens) → Seq (One (symbol s.OpenParenthesis)) (λ c. Closed_list) z w → WritesParams z w
     to z w (c, u, v, q, (n, h), g) = (u, v, q, (c.1, n, (symbol_class s.OpenParenthesis).is c.1.token c.0 h), g)
@@ -183,14 +191,11 @@ parameters_exact n = retold to from_params (must_open (symbol_class s.OpenParent
     from_params : (z : Params) (w : Tokens) → WritesParams z w → Seq (One (symbol s.OpenParenthesis)) (λ c. Closed_list) z w
     from_params z w (u, v, q, (y, n, t), g) = ((tt, y), u, v, q, (n, ap (symbol s.OpenParenthesis) t ∙ (symbol_class s.OpenParenthesis).has tt), g)
 
-notes_at : (past : Token → Option (Unit {0})) → past (tok.Symbol s.OpenParenthesis) ≡ Some tt → past (tok.Symbol s.ColonColon) ≡ None → (n : ℕ)
-    → Exact n 200 200 (either past nobody) (either (symbol s.ColonColon) (either past nobody)) WritesNotes (notes 200 (under 201) (under 200) past)
-notes_at past a b n = notes_exact 200 (under 201) (under 200) any_at range_at any_in range_in past a b n
+notes_at : (I : Token → Bool) → I (tok.Symbol s.ColonColon) ≡ false → ((u : Token) → I u ≡ false → e_atom u ≡ false) → (n : ℕ) → Exact n 200 200 I (either (symbol s.ColonColon) I) WritesNotes notes
+notes_at I goes less n = notes_exact 200 (under 201) (under 200) any_at range_at any_in range_in I goes less n
 
-pub constrained_exact : (n : ℕ) → Exact n 200 200 nobody e_declared (Pair Writes WritesNotes) (constrained 200 (under 201) (under 200) (under 199))
-unfolding constrained
-constrained_exact n = restop (past_declaration_all (either (symbol s.ColonColon) (either past_condition nobody)) refl refl)
-    (shut_by past_declaration (both (restop (past_condition_all e_any refl refl refl) (shut_by past_condition (any_at n nobody nobody_fresh))) (notes_at past_condition refl refl n)))
+pub constraint_exact : (n : ℕ) → Exact n 200 200 nobody e_declared (Pair Writes WritesNotes) (pair any notes)
+constraint_exact n = widen (λ u h. either_second (symbol s.Equal) (either (symbol s.ColonColon) e_any) u h) (both (any_at n nobody nobody_fresh) (notes_at e_any refl (atom_in_tier 10) n))
 
 -- goals
 abbrev RawGoal : Gl → Tokens → Type 0
@@ -209,26 +214,16 @@ goal_from (x.minimize p c) w (u, v, q, g, h) = inr (inl (tt, p, (u, v, q, g, (c,
 goal_from (x.maximize p c) w (u, v, q, g, h) = inr (inr (inl (tt, p, (u, v, q, g, (c, refl, h)))))
 goal_from (x.search_by p c) w (u, v, q, (y, n, t, l), h) = inr (inr (inr ((tt, y), u, v, q, (n, ap (keyword k.Search) t ∙ (keyword_class k.Search).has tt), (c, ap (λ b. x.search_by b c) (sym l), h))))
 
-goal_exact : (n : ℕ) → Exact n 200 200 (either (symbol s.ColonColon) (either past_solve nobody)) e_declared WritesGoal (goal 200 (under 201) (under 200) (under 199))
+goal_exact : (n : ℕ) → Exact n 200 200 (either (symbol s.ColonColon) e_atom) e_declared WritesGoal goal
 unfolding goal
 goal_exact n = retold goal_to goal_from
-    (start (keyword_class k.Satisfy) (λ a. refl) (λ a. refl) (λ a p. r.sealed_exact n 200 nobody past_declaration (x.satisfy p))
-    (start (keyword_class k.Minimize) (λ a. refl) (λ a. refl) (λ a p. mapped (x.minimize p) (last_value_exact n))
-    (start (keyword_class k.Maximize) (λ a. refl) (λ a. refl) (λ a p. mapped (x.maximize p) (last_value_exact n))
-    (next (take (keyword_class k.Search) tt (λ a. refl) (λ a. refl)) (λ c. mapped (x.search_by c.1.place) (last_value_exact n))))))
+    (start (keyword_class k.Satisfy) (λ a. refl) (λ a. refl) (λ a p. widen (λ u h. refl) (none_after (x.satisfy p)))
+    (start (keyword_class k.Minimize) (λ a. refl) (λ a. refl) (λ a p. mapped (x.minimize p) (value_exact n))
+    (start (keyword_class k.Maximize) (λ a. refl) (λ a. refl) (λ a p. mapped (x.maximize p) (value_exact n))
+    (next (take (keyword_class k.Search) tt (λ a. refl) (λ a. refl)) (λ c. mapped (x.search_by c.1.place) (value_exact n))))))
 
-abbrev RawSolved : Notes × Gl → Tokens → Type 0
-RawSolved = Pair (Seq (Just {A = Unit {0}} tt) (λ a. WritesNotes)) WritesGoal
-
-pub solved_exact : (n : ℕ) → Exact n 200 200 nobody e_declared (Pair WritesNotes WritesGoal) (solved 200 (under 201) (under 200) (under 199))
-unfolding solved
-solved_exact n = retold to from_notes (both (next (r.sealed_exact n 200 nobody past_solve tt) (λ a. notes_at past_solve refl refl n)) (goal_exact n))
-  where
-    to : (z : Notes × Gl) (w : Tokens) → RawSolved z w → Pair WritesNotes WritesGoal z w
-    to z w (u, v, q, (a, b, c, h, (i, j), g), rest) = (u, v, q, subst (WritesNotes z.0) (sym (h ∙ ap (λ d. d ++ c) j)) g, rest)
-
-    from_notes : (z : Notes × Gl) (w : Tokens) → Pair WritesNotes WritesGoal z w → RawSolved z w
-    from_notes z w (u, v, q, g, rest) = (u, v, q, (tt, [], u, refl, (refl, refl), g), rest)
+pub solve_exact : (n : ℕ) → Exact n 200 200 nobody e_declared (Pair WritesNotes WritesGoal) (pair notes goal)
+solve_exact n = both (loosen (λ u h. refl) (notes_at e_atom refl (λ u h. h) n)) (goal_exact n)
 
 -- ---- items that begin with a range
 

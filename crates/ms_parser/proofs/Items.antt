@@ -7,10 +7,10 @@ use Rattle.ms_syntax.specs.declared.token.Spanned.{Spanned}
 use Rattle.ms_syntax.specs.Grammar.{Tokens, WritesMoreItems, WritesItems, left}
 use Rattle.ms_expressions.specs.Reading.{Out, bad, deep, Parser, ◌>>=◌, ok, and_then, pick, front, pure, sealed, into}
 use Rattle.ms_expressions.specs.Kinds.{symbol}
-use Rattle.ms_expressions.specs.Rules.{or_end, any_token, more_items, items}
+use Rattle.ms_parser.specs.Lists.{or_end, any_token, more_items, items}
 use Rattle.ms_parser.proofs.Classes.{symbol_class}
 use Rattle.ms_parser.proofs.Exact as e
-use Rattle.ms_parser.proofs.Exact.{Exact, Seq, Just, Cases, Stops, Found, Stuck, Passes, IsDeep, SameHead, nobody, extend, stops_nobody}
+use Rattle.ms_parser.proofs.Exact.{Exact, Seq, Just, Cases, Stops, Found, Stuck, Passes, IsDeep, SameHead, nobody, extend}
 use Rattle.ms_parser.proofs.Choices.{either}
 use Rattle.ms_parser.proofs.Read as r
 use Rattle.ms_parser.proofs.Parts.{Image, next, mapped, clear_of, step_of}
@@ -31,12 +31,12 @@ module _ {A : Type 0} (n d : ℕ) (I : Token → Bool) (G : A → Tokens → Typ
   oe_starts x w r (inl g) s = subst (Stops I) (sym (ap (λ v. v ++ r) g.1 ∙ at_end r s)) tt
   oe_starts x w r (inr g) s = one.starts x w r g s
 
-  oe_sound : (ts : Tokens) (x : A) (r : Tokens) → length ts ≤ n → Stops I ts → or_end b p ts ≡ ok x r → Found d d all (Ended G b) ts x r
-  oe_sound [] x r fits s h =
+  oe_sound : (ts : Tokens) (x : A) (r : Tokens) → length ts ≤ n → or_end b p ts ≡ ok x r → Found d d (Ended G b) ts x r
+  oe_sound [] x r fits h =
       let value : b ≡ x = cc in let rest : [] ≡ r = cc in
-      record { front = []; whole = rest; written = inl (sym value, refl); stops = subst (Stops all) rest tt; even = refl }
-  oe_sound (y ∷ ts) x r fits s h = let f = one.sound (y ∷ ts) x r fits s h in
-      record { front = f.front; whole = f.whole; written = inr f.written; stops = f.stops; even = f.even }
+      record { front = []; whole = rest; written = inl (sym value, refl); even = refl }
+  oe_sound (y ∷ ts) x r fits h = let f = one.sound (y ∷ ts) x r fits h in
+      record { front = f.front; whole = f.whole; written = inr f.written; even = f.even }
 
   oe_right : (x : A) (w r : Tokens) → length (w ++ r) ≤ n → Ended G b x w → Stops all r → (or_end b p (w ++ r) ≡ ok x r) ⊎ (IsDeep (or_end b p (w ++ r)) × (left d w ≡ None))
   oe_right x w r fits (inl g) s =
@@ -45,24 +45,31 @@ module _ {A : Type 0} (n d : ℕ) (I : Token → Bool) (G : A → Tokens → Typ
   oe_right x [] r fits (inr g) s = absurd (some x g)
   oe_right x (y ∷ w) r fits (inr g) s = one.right x (y ∷ w) r fits g s
 
-  oe_wrong : (ts : Tokens) (k : ℕ) → length ts ≤ n → Stops I ts → or_end b p ts ≡ bad k → Stuck d (Ended G b) ts k
-  oe_wrong [] k fits s h = absurd (cc)
-  oe_wrong (y ∷ ts) k fits s h = let f = one.wrong (y ∷ ts) k fits s h in
+  oe_wrong : (ts : Tokens) (k : ℕ) → length ts ≤ n → or_end b p ts ≡ bad k → Stuck d (Ended G b) ts k
+  oe_wrong [] k fits h = absurd (cc)
+  oe_wrong (y ∷ ts) k fits h = let f = one.wrong (y ∷ ts) k fits h in
       record { front = f.front; rest = f.rest; whole = f.whole; count = f.count; value = f.value; more = f.more; written = inr f.written; even = f.even }
 
-  oe_passed : (ts : Tokens) (k : ℕ) → length ts ≤ n → Stops I ts → or_end b p ts ≡ deep k → Passes d (Ended G b) ts k
-  oe_passed [] k fits s h = absurd (cc)
-  oe_passed (y ∷ ts) k fits s h = let f = one.passed (y ∷ ts) k fits s h in
+  oe_passed : (ts : Tokens) (k : ℕ) → length ts ≤ n → or_end b p ts ≡ deep k → Passes d (Ended G b) ts k
+  oe_passed [] k fits h = absurd (cc)
+  oe_passed (y ∷ ts) k fits h = let f = one.passed (y ∷ ts) k fits h in
       record { front = f.front; opening = f.opening; rest = f.rest; whole = f.whole; count = f.count; value = f.value; more = f.more; written = inr f.written; edge = f.edge; opener = f.opener }
 
-  oe_frozen : (w c e : Tokens) → length (w ++ c) ≤ n → length (w ++ e) ≤ n → Stops I (w ++ c) → or_end b p (w ++ c) ≡ bad (length c) → SameHead c e → or_end b p (w ++ e) ≡ bad (length e)
-  oe_frozen [] [] e fits fits2 s h same = absurd (cc)
-  oe_frozen [] (y ∷ c) [] fits fits2 s h same = absurd same
-  oe_frozen [] (y ∷ c) (z ∷ e) fits fits2 s h same = one.frozen [] (y ∷ c) (z ∷ e) fits fits2 s h same
-  oe_frozen (y ∷ w) c e fits fits2 s h same = one.frozen (y ∷ w) c e fits fits2 s h same
+  oe_frozen : (w c e : Tokens) → length (w ++ c) ≤ n → length (w ++ e) ≤ n → or_end b p (w ++ c) ≡ bad (length c) → SameHead c e → or_end b p (w ++ e) ≡ bad (length e)
+  oe_frozen [] [] e fits fits2 h same = absurd (cc)
+  oe_frozen [] (y ∷ c) [] fits fits2 h same = absurd same
+  oe_frozen [] (y ∷ c) (z ∷ e) fits fits2 h same = one.frozen [] (y ∷ c) (z ∷ e) fits fits2 h same
+  oe_frozen (y ∷ w) c e fits fits2 h same = one.frozen (y ∷ w) c e fits fits2 h same
+
+  oe_steady : (x : A) (w c e : Tokens) → length (w ++ c) ≤ n → length (w ++ e) ≤ n → or_end b p (w ++ c) ≡ ok x c → SameHead c e → or_end b p (w ++ e) ≡ ok x e
+  oe_steady x [] [] [] fits fits2 h same = h
+  oe_steady x [] [] (z ∷ e) fits fits2 h same = absurd same
+  oe_steady x [] (y ∷ c) [] fits fits2 h same = absurd same
+  oe_steady x [] (y ∷ c) (z ∷ e) fits fits2 h same = one.steady x [] (y ∷ c) (z ∷ e) fits fits2 h same
+  oe_steady x (y ∷ w) c e fits fits2 h same = one.steady x (y ∷ w) c e fits fits2 h same
 
   pub or_end_exact : Exact n d d I all (Ended G b) (or_end b p)
-  or_end_exact = record { witness = (one.witness.0, one.witness.1, inr one.witness.2); starts = oe_starts; sound = oe_sound; right = oe_right; wrong = oe_wrong; passed = oe_passed; frozen = oe_frozen }
+  or_end_exact = record { witness = (one.witness.0, one.witness.1, inr one.witness.2); starts = oe_starts; sound = oe_sound; right = oe_right; wrong = oe_wrong; passed = oe_passed; steady = oe_steady; frozen = oe_frozen }
 
 -- on no tokens at all, a reader of a part of a language reads all of it, if the part has all that is of no tokens
 module _ {A : Type 0} {d1 d2 : ℕ} {I E : Token → Bool} {G : A → Tokens → Type 0} {p : Parser A} (H : A → Tokens → Type 0) (part : (x : A) (w : Tokens) → G x w → H x w) (back : (x : A) → H x [] → G x [])
@@ -75,10 +82,11 @@ module _ {A : Type 0} {d1 d2 : ℕ} {I E : Token → Bool} {G : A → Tokens →
   on_nothing = record {
     witness = (one.witness.0, one.witness.1, part one.witness.0 one.witness.1 one.witness.2);
     starts = begins;
-    sound = λ ts x r fits s h. let f = one.sound ts x r fits s h in record { front = f.front; whole = f.whole; written = part x f.front f.written; stops = f.stops; even = f.even };
+    sound = λ ts x r fits h. let f = one.sound ts x r fits h in record { front = f.front; whole = f.whole; written = part x f.front f.written; even = f.even };
     right = nothing_right;
-    wrong = λ ts k fits s h. let f = one.wrong ts k fits s h in record { front = f.front; rest = f.rest; whole = f.whole; count = f.count; value = f.value; more = f.more; written = part f.value (f.front ++ f.more) f.written; even = f.even };
-    passed = λ ts k fits s h. let f = one.passed ts k fits s h in
+    steady = one.steady;
+    wrong = λ ts k fits h. let f = one.wrong ts k fits h in record { front = f.front; rest = f.rest; whole = f.whole; count = f.count; value = f.value; more = f.more; written = part f.value (f.front ++ f.more) f.written; even = f.even };
+    passed = λ ts k fits h. let f = one.passed ts k fits h in
         record { front = f.front; opening = f.opening; rest = f.rest; whole = f.whole; count = f.count; value = f.value; more = f.more; written = part f.value (f.front ++ f.opening ∷ f.more) f.written; edge = f.edge; opener = f.opener };
     frozen = one.frozen;
   }
@@ -172,7 +180,7 @@ module _ {B : Type 0} (d : ℕ) (I : Token → Bool) (clear : I (tok.Symbol s.Se
       after_item : (t : Tokens) → length t ≤ length ts → ((t : Tokens) → length t ≤ j → length t ≤ n → more_items item j t ≡ more_items item n t) → (q : Out B) → item t ≡ q
           → and_then q (λ x. into {B = List B × Bool} (with_first G x) (more_items item j)) ≡ and_then q (λ x. into {B = List B × Bool} (with_first G x) (more_items item n))
       after_item t less again (ok x v) g =
-          let f = (one (length t)).sound t x v (omega arith) (stops_nobody t) g in
+          let f = (one (length t)).sound t x v (omega arith) g in
           let shorter : length v ≤ length ts = omega (arith, ap length f.whole, length-append f.front v, less) in
           ap (λ o. and_then o (λ r. pure (with_first G x r))) (again v (omega (arith, shorter, h)) (omega (arith, shorter, i)))
       after_item t less again (bad b) g = refl

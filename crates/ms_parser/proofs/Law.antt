@@ -50,21 +50,19 @@ module _ {A : Type 0} (E : Token → Bool) (G : A → Tokens → Type 0) (p : Pa
   stuck_next ts front (y ∷ r) n q c h = λ (x, more, g).
       let bound = length (front ++ (y ∷ r)) + length (front ++ (y ∷ more)) in
       let here : p (front ++ (y ∷ r)) ≡ bad (length (y ∷ r)) = subst (λ (v : Tokens). p v ≡ bad n) q h ∙ ap bad (sym c) in
-      let there = (exact bound).frozen front (y ∷ r) (y ∷ more) (omega arith) (omega arith) (stops_nobody (front ++ (y ∷ r))) here refl in
+      let there = (exact bound).frozen front (y ∷ r) (y ∷ more) (omega arith) (omega arith) here refl in
       not_bad x (front ++ (y ∷ more)) (length (y ∷ more)) (subst (G x) (append_assoc front (y ∷ []) more) g) there
 
-  early_next : (x : A) (front : Tokens) (y : Spanned) (r : Tokens) → G x front → left 200 front ≡ Some 200 → E y.token ≡ false → Begins G (front ++ y ∷ []) → ⊥
-  early_next x front y r g even s (z, more, h) =
+  early_next : (x : A) (front : Tokens) (y : Spanned) (r : Tokens) → p (front ++ (y ∷ r)) ≡ ok x (y ∷ r) → Begins G (front ++ y ∷ []) → ⊥
+  early_next x front y r read (z, more, h) =
+      let bound = length (front ++ (y ∷ r)) + length (front ++ (y ∷ more)) in
       let written : G z (front ++ (y ∷ more)) = subst (G z) (append_assoc front (y ∷ []) more) h in
-      elim ((exact (length (front ++ (y ∷ more)))).right x front (y ∷ more) (omega arith) g s) as (λ _. ⊥) [
-        | inl e ↦ not_early z x (front ++ (y ∷ more)) more y written e
-        | inr e ↦ none_some (sym e.1 ∙ even)
-      ]
+      not_early z x (front ++ (y ∷ more)) more y written ((exact bound).steady x front (y ∷ r) (y ∷ more) (omega arith) (omega arith) read refl)
 
   syntax_by : (ts : Tokens) (n : ℕ) (o : Out A) → p ts ≡ o → and_then o finish ≡ bad n → SyntaxAt G ts (length ts - n)
   syntax_by ts n (bad k) h e =
       let same : k ≡ n = cc in
-      let s = (exact (length ts)).wrong ts k (omega arith) (stops_nobody ts) h in
+      let s = (exact (length ts)).wrong ts k (omega arith) h in
       record {
         front = s.front;
         rest = s.rest;
@@ -76,7 +74,7 @@ module _ {A : Type 0} (E : Token → Bool) (G : A → Tokens → Type 0) (p : Pa
       }
   syntax_by ts n (ok x []) h e = absurd (cc)
   syntax_by ts n (ok x (y ∷ r)) h e =
-      let s = (exact (length ts)).sound ts x (y ∷ r) (omega arith) (stops_nobody ts) h in
+      let s = (exact (length ts)).sound ts x (y ∷ r) (omega arith) h in
       let k : suc (length r) ≡ n = cc in
       record {
         front = s.front;
@@ -85,7 +83,7 @@ module _ {A : Type 0} (E : Token → Bool) (G : A → Tokens → Type 0) (p : Pa
         count = omega (arith, ap length s.whole, length-append s.front (y ∷ r), k);
         begins = (x, [], subst (G x) (sym (append_nil s.front)) s.written);
         shallow = is_some_of (left 200 s.front) 200 s.even;
-        next = early_next x s.front y r s.written s.even s.stops;
+        next = early_next x s.front y r (sym (ap p s.whole) ∙ h);
       }
   syntax_by ts n (deep k) h e = absurd (cc)
 
@@ -99,7 +97,7 @@ module _ {A : Type 0} (E : Token → Bool) (G : A → Tokens → Type 0) (p : Pa
   deep_by ts n (ok x (y ∷ r)) h e = absurd (cc)
   deep_by ts n (deep k) h e =
       let same : k ≡ n = cc in
-      let s = (exact (length ts)).passed ts k (omega arith) (stops_nobody ts) h in
+      let s = (exact (length ts)).passed ts k (omega arith) h in
       record {
         front = s.front;
         opening = s.opening;
@@ -120,7 +118,7 @@ module _ {A : Type 0} (E : Token → Bool) (G : A → Tokens → Type 0) (p : Pa
   found_by ts x r (ok y (z ∷ s)) h e = absurd (cc)
   found_by ts x r (ok y []) h e =
       let same : y ≡ x = cc in
-      let s = (exact (length ts)).sound ts y [] (omega arith) (stops_nobody ts) h in
+      let s = (exact (length ts)).sound ts y [] (omega arith) h in
       let all : ts ≡ s.front = s.whole ∙ append_nil s.front in
       subst (λ (v : A). G v ts × IsShallow ts) same
       (subst (λ (v : Tokens). G y v × IsShallow v) (sym all) (s.written, is_some_of (left 200 s.front) 200 s.even))
@@ -146,11 +144,11 @@ module _ {A : Type 0} (E : Token → Bool) (G : A → Tokens → Type 0) (p : Pa
       left_by : (ts : Tokens) (n : ℕ) (o : Out A) → p ts ≡ o → and_then o finish ≡ bad n → n ≤ length ts
       left_by ts n (bad k) h e =
           let same : k ≡ n = cc in
-          let s = (exact (length ts)).wrong ts k (omega arith) (stops_nobody ts) h in
+          let s = (exact (length ts)).wrong ts k (omega arith) h in
           omega (arith, ap length s.whole, length-append s.front s.rest, s.count)
       left_by ts n (ok x []) h e = absurd (cc)
       left_by ts n (ok x (y ∷ r)) h e =
-          let s = (exact (length ts)).sound ts x (y ∷ r) (omega arith) (stops_nobody ts) h in
+          let s = (exact (length ts)).sound ts x (y ∷ r) (omega arith) h in
           let k : suc (length r) ≡ n = cc in
           omega (arith, ap length s.whole, length-append s.front (y ∷ r), k)
       left_by ts n (deep k) h e = absurd (cc)
@@ -164,7 +162,7 @@ module _ {A : Type 0} (E : Token → Bool) (G : A → Tokens → Type 0) (p : Pa
       left_by ts n (ok x (y ∷ r)) h e = absurd (cc)
       left_by ts n (deep k) h e =
           let same : k ≡ n = cc in
-          let s = (exact (length ts)).passed ts k (omega arith) (stops_nobody ts) h in
+          let s = (exact (length ts)).passed ts k (omega arith) h in
           omega (arith, ap length s.whole, length-append s.front (s.opening ∷ s.rest), s.count)
 
   pub only_bad : (ts : Tokens) (n : ℕ) (x : A) → (p >>= finish) ts ≡ bad n → G x ts → IsShallow ts → ⊥

@@ -17,14 +17,15 @@ use Rattle.ms_syntax.specs.Tree.{Ex, Maybe, Links, Subscripts, links_of, subscri
 use Rattle.ms_syntax.specs.Grammar.{Tokens, ◌⋅◌, at, from, BeginsAt, operands, single, sign_of, mark_of, truth_of, Writes, WritesLinks, WritesSubscripts, left_after}
 use Rattle.ms_expressions.specs.declared.reach.Reach.{Reach}
 use Rattle.ms_expressions.specs.declared.reach.Reach.TheVariants as reach
-use Rattle.ms_expressions.specs.Reading.{Parser, ◌>>=◌, pure, into, shut, place_at}
+use Rattle.ms_expressions.specs.Reading.{Parser, ◌>>=◌, pure, into, place_at}
 use Rattle.ms_expressions.specs.Kinds.{a_name, a_number, a_text, a_sign, symbol, only, infix_of}
-use Rattle.ms_expressions.specs.Rules.{chained, accessing, is_single, named, closed, bracketed, atom, opened_subscript, subscripts, accessed, signed, one_more, links, behind as behind_rule, tier, arguments, set_rest}
+use Rattle.ms_expressions.specs.Rules.{chained, accessing, named, closed, bracketed, atom, opened_subscript, subscripts, accessed, signed, one_more, links, behind as behind_rule, tier, arguments, set_rest}
+use Rattle.ms_expressions.specs.Level.{is_single}
 use Rattle.ms_parser.proofs.Classes.{name_class, number_class, text_class, truth_class, sign_class, symbol_class, keyword_class, operator_has, infix_is, infix_has}
-use Rattle.ms_parser.proofs.Exact.{Exact, Seq, Just, One, Cases, Many, nobody, append_nil}
-use Rattle.ms_parser.proofs.Choices.{either, some_or}
+use Rattle.ms_parser.proofs.Exact.{widen, Exact, Seq, Just, One, Cases, Many, nobody, append_nil}
+use Rattle.ms_parser.proofs.Choices.{either, either_second, some_or}
 use Rattle.ms_parser.proofs.Read as r
-use Rattle.ms_parser.proofs.Parts.{Pair, Image, Start, Has, token_at, the_has, has_pair, next, both, mapped, retold, none_after, shut_by, start, start_open}
+use Rattle.ms_parser.proofs.Parts.{Pair, Image, Start, Has, token_at, the_has, has_pair, next, both, mapped, retold, none_after, start, start_open}
 use Rattle.ms_parser.proofs.Lists.{must_open, repeat_open, listing, placeless, placing, placed_exact}
 use Rattle.ms_parser.proofs.Enclosed.{e_atom, e_access, e_tier, e_any, e_range, Fresh, nobody_fresh, IsAt, IsClosed, IsListed, IsIf, if_of, IsSubscript, RawArray, RawRows, has_if, has_paren, has_array, has_rows, has_set, has_zero, if_exact, paren_exact, array_exact, rows_exact, set_exact, subscript_exact, array_to, array_from, comprehension_from, rows_to, rows_from}
 use Rattle.ms_parser.proofs.Calls.{lparen, Behind, RawArguments, has_arguments, arguments_exact, named_to, call_from, generator_call_from}
@@ -307,8 +308,8 @@ module _ (n d h : ℕ) (operand : Parser Ex) (one : (n : ℕ) (I : Token → Boo
   one_more_exact : (first : Ex) → Exact n d d (e_tier h) (e_tier (suc h)) (One_more (suc (suc h)) first) (one_more (suc (suc h)) operand first)
   unfolding one_more
   one_more_exact first = r.by_exact n n d d d (omega arith) (e_tier h) (e_tier (suc h)) (infix_of (suc (suc h))) (λ op y. Image (λ e. x.chain (suc (suc h)) first (x.link op y.place e x.no_links)) (IsAt (suc (suc h)))) (Just first)
-      (λ op y. shut (infix_of (suc (suc h))) (into (λ e. x.chain (suc (suc h)) first (x.link op y.place e x.no_links)) operand)) (pure first) infix_clear infix_step
-      (λ op y g. shut_by (infix_of (suc (suc h))) (mapped (λ e. x.chain (suc (suc h)) first (x.link op y.place e x.no_links)) (one n nobody nobody_signed)))
+      (λ op y. into (λ e. x.chain (suc (suc h)) first (x.link op y.place e x.no_links)) operand) (pure first) infix_clear infix_step
+      (λ op y g. widen (λ u k. either_second (infix_of (suc (suc h))) (e_tier h) u k) (mapped (λ e. x.chain (suc (suc h)) first (x.link op y.place e x.no_links)) (one n nobody nobody_signed)))
       (none_after first)
 
   behind_exact : (b : Bool) (first : Ex) → Exact n d d (e_tier h) (e_tier (suc h)) (Behind_first b (suc (suc h)) first) (if b then one_more (suc (suc h)) operand first else into (chained (suc (suc h)) first) (links (suc (suc h)) operand))
@@ -367,7 +368,7 @@ module _ (d : ℕ) (inner : Reach → Parser Ex) (any : (m : ℕ) → d ≡ suc 
       (start name_class (λ w. fresh.2 w) (λ w. refl)
       (λ w p. start_open (symbol_class s.OpenParenthesis) (λ a. refl) (λ a. refl) (λ a z. has_arguments p w)
       (λ m h a z. arguments_at n w p m h) (none_after (x.name p w)))
-      (shut_by lparen (closed_atom_exact n I fresh)))
+      (widen (λ u h. refl) (closed_atom_exact n I fresh)))
     where
       arguments_at : (n : ℕ) (w : List ℕ) (p : Place) (m : ℕ) → d ≡ suc m → Exact n m (suc m) nobody e_atom (RawArguments p w) (arguments d inner p w)
       arguments_at n w p m h = subst (λ (q : ℕ). Exact n m (suc m) nobody e_atom (RawArguments p w) (arguments q inner p w)) (sym h) (arguments_exact m inner (any m h) (range m h) n p w)

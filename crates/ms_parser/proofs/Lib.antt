@@ -13,12 +13,12 @@ pub mod Bases
 pub mod Decls
 pub mod Nested
 pub mod Law
-pub mod Listed
 pub mod Accepted
 pub mod Items
 pub mod Assigned
 pub mod ItemParts
 pub mod Modeled
 pub mod Grouped
-pub mod Whole
 pub mod Answered
+pub mod Listed
+pub mod Whole

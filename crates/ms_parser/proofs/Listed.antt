@@ -6,14 +6,14 @@ use Rattle.ms_syntax.specs.declared.token.Spanned.{Spanned}
 use Rattle.ms_syntax.specs.declared.token.Place.{Place}
 use Rattle.ms_syntax.specs.Tree.{Ex}
 use Rattle.ms_syntax.specs.Grammar.{Tokens}
-use Rattle.ms_expressions.specs.declared.fault.ParseFault.{ParseFault}
-use Rattle.ms_expressions.specs.declared.fault.ParseFault.TheVariants.{Syntax, Deep, Memory}
+use Rattle.ms_expressions.specs.declared.stop.Stop.{Stop}
+use Rattle.ms_expressions.specs.declared.stop.Stop.TheVariants.{Syntax, Deep, Memory}
 use Rattle.ms_expressions.specs.Reads.{Fails}
 use Rattle.ms_expressions.specs.Reading.{Out, ok, bad, deep, Parser, and_then, pure, pick, front, after, into, place_at, finish, sealed, ◌>>=◌}
 use Rattle.ms_expressions.specs.Kinds.{symbol}
-use Rattle.ms_expressions.specs.Rules.{Turn, item, last, or_end, any_token, more_items, items, item_turn}
-use Rattle.ms_expressions.specs.Rules as r
-use Rattle.ms_parser.specs.Outermost.{range, of_range, behind_range}
+use Rattle.ms_expressions.specs.Rules.{Turn, item, last}
+use Rattle.ms_parser.specs.Lists.{or_end, any_token, more_items, items, item_turn}
+use Rattle.ms_parser.specs.Items.{range, of_range, behind_range}
 use Rattle.ms_expressions.proofs.Turns.{grown_by, go_on, turns_over}
 
 pub finish_none : (ts t : Tokens) → finish (tt {0}) ts ≡ ok tt t → ts ≡ []
@@ -61,7 +61,7 @@ module _ {A : Type 0} (one : Parser A) where
       ap (λ v. grown_by v (more_items one (length t) t)) g ∙ sym (first_then a (more_items one (length t) t))
       ∙ ap (λ o. and_then o (λ a. into {B = List A × Bool} (λ r. (a ∷ r.0, r.1)) (λ ts. more_items one (length ts) ts))) (sym h)
 
-  pub items_fail : (ts : Tokens) (fault : ParseFault) → (ts ≡ [] → ⊥) → Fails (one ts) fault → Fails (items one ts) fault
+  pub items_fail : (ts : Tokens) (fault : Stop) → (ts ≡ [] → ⊥) → Fails (one ts) fault → Fails (items one ts) fault
   unfolding items
   items_fail [] fault some h = absurd (some refl)
   items_fail (y ∷ ts) Memory some h = tt
@@ -81,12 +81,12 @@ module _ {A : Type 0} (one : Parser A) where
     pub items_over : ts ≡ [] → whole ≡ ok (found, false) ts
     items_over h = at_over ts rest (ok tt ts) (ap (finish (tt {0})) h ∙ ap (ok tt) (sym h))
 
-    pub items_left : (fault : ParseFault) → Fails (finish (tt {0}) ts) fault → Fails whole fault
+    pub items_left : (fault : Stop) → Fails (finish (tt {0}) ts) fault → Fails whole fault
     items_left Memory h = tt
     items_left (Syntax k) h = at_over ts rest (bad k) h
     items_left (Deep k) h = at_over ts rest (deep k) h
 
 -- an item that begins with a range
 pub of_range_is : (ts t : Tokens) (p : Place) (e : Ex) → range ts ≡ ok e t → p ≡ place_at ts → of_range ts ≡ behind_range p e t
-unfolding r.of_range
+unfolding of_range
 of_range_is ts t p e h place = ap (λ o. and_then (and_then o (λ a. pure {A = Place × Ex} (place_at ts, a))) (λ c. behind_range c.0 c.1)) h ∙ ap (λ q. behind_range q e t) (sym place)

@@ -10,7 +10,7 @@ use Rattle.ms_parser.proofs.Classes.{Class}
 use Rattle.ms_parser.proofs.Cases as c
 use Rattle.ms_parser.proofs.Exact as e
 use Rattle.ms_parser.proofs.Choices as choices
-use Rattle.ms_parser.proofs.Exact.{Exact, Seq, Just, One, Many, Found, IsDeep, Stops, nobody, append_nil, stops_nobody}
+use Rattle.ms_parser.proofs.Exact.{Exact, Seq, Just, One, Many, Found, IsDeep, SameHead, Stops, nobody, append_nil, stops_nobody}
 use Rattle.ms_parser.proofs.Choices.{either}
 use Rattle.ms_parser.proofs.Read as r
 use Rattle.ms_parser.proofs.Parts.{Image, Has, token_at, clear_of, step_of, opens_of, next, take}
@@ -86,15 +86,15 @@ module _ {A : Type 0} {n d1 d2 : ℕ} {I E : Token → Bool} {G : A → Tokens �
   place_same q [] r b = absurd b
   place_same q (y ∷ w) r b = b
 
-  pl_found : (ts : Tokens) (x : Place × A) (r : Tokens) (o : Out A) → length ts ≤ n → Stops I ts → p ts ≡ o → and_then o (λ a. pure {A = Place × A} (place_at ts, a)) ≡ ok x r → Found d1 d2 E Placed ts x r
-  pl_found ts x r (ok a m) fits s t h =
+  pl_found : (ts : Tokens) (x : Place × A) (r : Tokens) (o : Out A) → length ts ≤ n → p ts ≡ o → and_then o (λ a. pure {A = Place × A} (place_at ts, a)) ≡ ok x r → Found d1 d2 Placed ts x r
+  pl_found ts x r (ok a m) fits t h =
       let value : ◌≡◌ {A = Place × A} (place_at ts, a) x = cc in
       let rest : m ≡ r = cc in
-      let g = one.sound ts a r fits s (t ∙ ap (ok a) rest) in
+      let g = one.sound ts a r fits (t ∙ ap (ok a) rest) in
       let here : BeginsAt (place_at ts) g.front = subst (λ (k : Tokens). BeginsAt (place_at k) g.front) (sym g.whole) (begins a g.front r g.written) in
-      subst (λ (k : Place × A). Found d1 d2 E Placed ts k r) value (record { front = g.front; whole = g.whole; written = (here, g.written); stops = g.stops; even = g.even })
-  pl_found ts x r (bad k) fits s t h = absurd (cc)
-  pl_found ts x r (deep k) fits s t h = absurd (cc)
+      subst (λ (k : Place × A). Found d1 d2 Placed ts k r) value (record { front = g.front; whole = g.whole; written = (here, g.written); even = g.even })
+  pl_found ts x r (bad k) fits t h = absurd (cc)
+  pl_found ts x r (deep k) fits t h = absurd (cc)
 
   pl_bad : (ts : Tokens) (k : ℕ) (o : Out A) → p ts ≡ o → and_then o (λ a. pure {A = Place × A} (place_at ts, a)) ≡ bad k → p ts ≡ bad k
   pl_bad ts k (ok a m) t h = absurd (cc)
@@ -120,15 +120,29 @@ module _ {A : Type 0} {n d1 d2 : ℕ} {I E : Token → Bool} {G : A → Tokens �
       deep_on q (bad k) i = absurd i
       deep_on q (deep k) i = tt
 
+  pl_place : (a : A) (w b c : Tokens) → length (w ++ b) ≤ n → p (w ++ b) ≡ ok a b → place_at (w ++ b) ≡ place_at (w ++ c)
+  pl_place a [] b c fits t = let g = one.sound b a b fits t in absurd (some a (subst (G a) (e.cut_same g.front [] b b (sym g.whole) refl).0 g.written))
+  pl_place a (y ∷ w) b c fits t = refl
+
+  pl_steady : (x : Place × A) (w b c : Tokens) (o : Out A) → length (w ++ b) ≤ n → length (w ++ c) ≤ n → p (w ++ b) ≡ o → and_then o (λ a. pure {A = Place × A} (place_at (w ++ b), a)) ≡ ok x b → SameHead b c → placed p (w ++ c) ≡ ok x c
+  pl_steady x w b c (ok a m) fits fits2 t h same =
+      let value : ◌≡◌ {A = Place × A} (place_at (w ++ b), a) x = cc in
+      let rest : m ≡ b = cc in
+      let here = t ∙ ap (ok a) rest in
+      ap (λ o. and_then o (λ a. pure {A = Place × A} (place_at (w ++ c), a))) (one.steady a w b c fits fits2 here same)
+      ∙ ap (λ v. pure {A = Place × A} (v, a) c) (sym (pl_place a w b c fits here)) ∙ ap (λ v. ok v c) value
+  pl_steady x w b c (bad k) fits fits2 t h same = absurd (cc)
+  pl_steady x w b c (deep k) fits fits2 t h same = absurd (cc)
+
   pub placed_exact : Exact n d1 d2 I E Placed (placed p)
   placed_exact = record {
     witness = let a = one.witness in ((place_at (a.1 ++ []), a.0), a.1, (begins a.0 a.1 [] a.2, a.2));
     starts = λ x w r g halt. one.starts x.1 w r g.1 halt;
-    sound = λ ts x r fits s h. pl_found ts x r (p ts) fits s refl h;
+    sound = λ ts x r fits h. pl_found ts x r (p ts) fits refl h;
     right = pl_right;
-    wrong = λ ts k fits s h. let g = one.wrong ts k fits s (pl_bad ts k (p ts) refl h) in
+    wrong = λ ts k fits h. let g = one.wrong ts k fits (pl_bad ts k (p ts) refl h) in
         record { front = g.front; rest = g.rest; whole = g.whole; count = g.count; value = (place_at ((g.front ++ g.more) ++ []), g.value); more = g.more; written = (begins g.value (g.front ++ g.more) [] g.written, g.written); even = g.even };
-    passed = λ ts k fits s h. let g = one.passed ts k fits s (pl_deep ts k (p ts) refl h) in
+    passed = λ ts k fits h. let g = one.passed ts k fits (pl_deep ts k (p ts) refl h) in
         record {
           front = g.front;
           opening = g.opening;
@@ -141,7 +155,8 @@ module _ {A : Type 0} {n d1 d2 : ℕ} {I E : Token → Bool} {G : A → Tokens �
           edge = g.edge;
           opener = g.opener;
         };
-    frozen = λ w b c fits fits2 s h same. ap (λ o. and_then o (λ a. pure {A = Place × A} (place_at (w ++ c), a))) (one.frozen w b c fits fits2 s (pl_bad (w ++ b) (length b) (p (w ++ b)) refl h) same);
+    steady = λ x w b c fits fits2 h same. pl_steady x w b c (p (w ++ b)) fits fits2 refl h same;
+    frozen = λ w b c fits fits2 h same. ap (λ o. and_then o (λ a. pure {A = Place × A} (place_at (w ++ c), a))) (one.frozen w b c fits fits2 (pl_bad (w ++ b) (length b) (p (w ++ b)) refl h) same);
   }
 
 -- ---- what never is read whole, and so may go on as it likes
@@ -183,11 +198,11 @@ module _ {A B : Type 0} {n d1 d2 : ℕ} {I : Token → Bool} {G : A → Tokens �
   never = record {
     witness = let a = one.witness in let b = some a.0 in (b.0, a.1 ++ b.1, (a.0, a.1, b.1, refl, a.2, b.2));
     starts = λ x w r g halt. never_starts x w r g;
-    sound = λ ts x r fits s h. absurd (nv_ok ts x r (p ts) refl h);
+    sound = λ ts x r fits h. absurd (nv_ok ts x r (p ts) refl h);
     right = nv_right;
-    wrong = λ ts k fits s h. let a = one.wrong ts k fits s (nv_bad ts k (p ts) refl h) in let b = some a.value in
+    wrong = λ ts k fits h. let a = one.wrong ts k fits (nv_bad ts k (p ts) refl h) in let b = some a.value in
         record { front = a.front; rest = a.rest; whole = a.whole; count = a.count; value = b.0; more = a.more ++ b.1; written = (a.value, a.front ++ a.more, b.1, sym (append_assoc a.front a.more b.1), a.written, b.2); even = a.even };
-    passed = λ ts k fits s h. let a = one.passed ts k fits s (nv_deep ts k (p ts) refl h) in let b = some a.value in
+    passed = λ ts k fits h. let a = one.passed ts k fits (nv_deep ts k (p ts) refl h) in let b = some a.value in
         record {
           front = a.front;
           opening = a.opening;
@@ -200,7 +215,8 @@ module _ {A B : Type 0} {n d1 d2 : ℕ} {I : Token → Bool} {G : A → Tokens �
           edge = a.edge;
           opener = a.opener;
         };
-    frozen = λ w b c fits fits2 s h same. ap (λ o. and_then o q) (one.frozen w b c fits fits2 s (nv_bad (w ++ b) (length b) (p (w ++ b)) refl h) same);
+    steady = λ x w b c fits fits2 h same. absurd (nv_ok (w ++ b) x b (p (w ++ b)) refl h);
+    frozen = λ w b c fits fits2 h same. ap (λ o. and_then o q) (one.frozen w b c fits fits2 (nv_bad (w ++ b) (length b) (p (w ++ b)) refl h) same);
   }
     where
       never_starts : (x : B) (w r : Tokens) → Seq G H x w → Stops I (w ++ r)
@@ -248,22 +264,5 @@ module _ {A : Type 0} {f : Token → Option A} {t : A → Token} (k : Class f t)
   must_open E H q (suc m) some one = next (open_exact m) (λ x. one m refl x)
 
 -- the same tokens may not come next
-module _ {A : Type 0} {n d1 d2 : ℕ} {I E F : Token → Bool} {G : A → Tokens → Type 0} {p : Parser A} (same : (u : Token) → E u ≡ F u) (one : Exact n d1 d2 I E G p) where
-  stops_to : (r : Tokens) → Stops E r → Stops F r
-  stops_to [] h = tt
-  stops_to (y ∷ r) h = sym (same y.token) ∙ h
-
-  stops_from : (r : Tokens) → Stops F r → Stops E r
-  stops_from [] h = tt
-  stops_from (y ∷ r) h = same y.token ∙ h
-
-  pub restop : Exact n d1 d2 I F G p
-  restop = record {
-    witness = one.witness;
-    starts = λ x w r g halt. one.starts x w r g (stops_from r halt);
-    sound = λ ts x r fits s h. let g = one.sound ts x r fits s h in record { front = g.front; whole = g.whole; written = g.written; stops = stops_to r g.stops; even = g.even };
-    right = λ x w r fits g halt. one.right x w r fits g (stops_from r halt);
-    wrong = one.wrong;
-    passed = one.passed;
-    frozen = one.frozen;
-  }
+pub restop : {A : Type 0} {n d1 d2 : ℕ} {I E F : Token → Bool} {G : A → Tokens → Type 0} {p : Parser A} → ((u : Token) → E u ≡ F u) → Exact n d1 d2 I E G p → Exact n d1 d2 I F G p
+restop same one = e.widen (λ u h. same u ∙ h) one

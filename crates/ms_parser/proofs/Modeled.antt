@@ -14,12 +14,15 @@ use Rattle.ms_syntax.specs.Grammar.{Tokens, ◌⋅◌, the, Writes, WritesNotes,
 use Rattle.ms_parser.specs.Answers.{HasAnswer, IsWithin, from_front}
 use Rattle.ms_expressions.specs.Reading.{Out, bad, deep, Parser, ok, pick, tagged, into, skip}
 use Rattle.ms_expressions.specs.Kinds.{symbol, keyword}
-use Rattle.ms_expressions.specs.Rules.{past_declaration, declared, declaration, under, peek, kind_word, if_name, last_value, of_range, an_item, items, model}
+use Rattle.ms_expressions.specs.Rules.{declared, declaration, under}
+use Rattle.ms_expressions.specs.Kinds.{kind_word}
+use Rattle.ms_parser.specs.Lists.{items}
+use Rattle.ms_parser.specs.Items.{any, peek, if_name, of_range, an_item, model}
 use Rattle.ms_parser.proofs.Classes.{symbol_class, keyword_class}
-use Rattle.ms_parser.proofs.Exact.{Exact, Stops, Found, Stuck, Passes, IsDeep, SameHead, nobody}
+use Rattle.ms_parser.proofs.Exact.{widen, Exact, Stops, Found, Stuck, Passes, IsDeep, SameHead, nobody}
 use Rattle.ms_parser.proofs.Choices.{either, some_or}
 use Rattle.ms_parser.proofs.Read as r
-use Rattle.ms_parser.proofs.Parts.{Pair, Image, Start, next, both, mapped, retold, behind, shut_by, start}
+use Rattle.ms_parser.proofs.Parts.{Pair, Image, Start, next, both, mapped, retold, behind, start}
 use Rattle.ms_parser.proofs.Lists.{placed_exact}
 use Rattle.ms_parser.proofs.Enclosed.{e_range, Fresh}
 use Rattle.ms_parser.proofs.Bases.{IsWord, word_exact, IsKind, FreshKind, nobody_fresh_base}
@@ -28,11 +31,11 @@ use Rattle.ms_parser.proofs.Items.{all, items_exact}
 use Rattle.std.specs.Prelude.{Result}
 use Rattle.ms_syntax.specs.declared.tree.Tree.{Tree}
 use Rattle.ms_syntax.specs.Tree.{tree_view}
-use Rattle.ms_expressions.specs.declared.fault.ParseFault.{ParseFault}
+use Rattle.ms_expressions.specs.declared.stop.Stop.{Stop}
 use Rattle.ms_expressions.specs.Reads.{Reads}
 use Rattle.ms_parser.proofs.Law as law
 use Rattle.ms_parser.proofs.Answered as t
-use Rattle.ms_parser.proofs.ItemParts.{string_exact, any_at, range_at, any_in, range_in, last_value_exact, elements_exact, parameters_exact, constrained_exact, solved_exact, name_class_is, range_declared, RawOfRange, begins_no, range_some, of_range_to, assignment_from, range_from}
+use Rattle.ms_parser.proofs.ItemParts.{string_exact, any_at, range_at, any_in, range_in, value_exact, elements_exact, parameters_exact, constraint_exact, solve_exact, name_class_is, range_declared, RawOfRange, begins_no, range_some, of_range_to, assignment_from, range_from}
 
 -- ---- a choice by the next token, which is left where it is
 
@@ -47,9 +50,6 @@ module _ {A B : Type 0} (n d1 d2 : ℕ) (I E : Token → Bool) (f : Token → Op
 
   pk_none : (y : Spanned) (ts : Tokens) → f y.token ≡ None → peek f p q (y ∷ ts) ≡ q (y ∷ ts)
   pk_none y ts h = ap (λ o. pick (tagged y o) (λ b. p (y ∷ ts)) (q (y ∷ ts))) h
-
-  pk_stops : (y : Spanned) → f y.token ≡ None → I y.token ≡ false → either f I y.token ≡ false
-  pk_stops y h i = ap (λ o. some_or o (I y.token)) h ∙ i
 
   or_none : (o : Option A) (b : Bool) → some_or o b ≡ false → o ≡ None
   or_none None b h = refl
@@ -67,19 +67,19 @@ module _ {A B : Type 0} (n d1 d2 : ℕ) (I E : Token → Bool) (f : Token → Op
   pk_starts z w r (inl g) halt = one.starts z w r g halt
   pk_starts z w r (inr h) halt = clear_all (w ++ r) (two.starts z w r h halt)
 
-  found_one : (ts : Tokens) (z : B) (r : Tokens) → Found d1 d2 E G ts z r → Found d1 d2 E Either ts z r
-  found_one ts z r g = record { front = g.front; whole = g.whole; written = inl g.written; stops = g.stops; even = g.even }
+  found_one : (ts : Tokens) (z : B) (r : Tokens) → Found d1 d2 G ts z r → Found d1 d2 Either ts z r
+  found_one ts z r g = record { front = g.front; whole = g.whole; written = inl g.written; even = g.even }
 
-  found_two : (ts : Tokens) (z : B) (r : Tokens) → Found d1 d2 E H ts z r → Found d1 d2 E Either ts z r
-  found_two ts z r g = record { front = g.front; whole = g.whole; written = inr g.written; stops = g.stops; even = g.even }
+  found_two : (ts : Tokens) (z : B) (r : Tokens) → Found d1 d2 H ts z r → Found d1 d2 Either ts z r
+  found_two ts z r g = record { front = g.front; whole = g.whole; written = inr g.written; even = g.even }
 
-  pk_sound_at : (y : Spanned) (ts : Tokens) (z : B) (r : Tokens) (o : Option A) → f y.token ≡ o → length (y ∷ ts) ≤ n → I y.token ≡ false → peek f p q (y ∷ ts) ≡ ok z r → Found d1 d2 E Either (y ∷ ts) z r
-  pk_sound_at y ts z r None t fits s h = found_two (y ∷ ts) z r (two.sound (y ∷ ts) z r fits (pk_stops y t s) (sym (pk_none y ts t) ∙ h))
-  pk_sound_at y ts z r (Some a) t fits s h = found_one (y ∷ ts) z r (one.sound (y ∷ ts) z r fits s (sym (pk_some y ts a t) ∙ h))
+  pk_sound_at : (y : Spanned) (ts : Tokens) (z : B) (r : Tokens) (o : Option A) → f y.token ≡ o → length (y ∷ ts) ≤ n → peek f p q (y ∷ ts) ≡ ok z r → Found d1 d2 Either (y ∷ ts) z r
+  pk_sound_at y ts z r None t fits h = found_two (y ∷ ts) z r (two.sound (y ∷ ts) z r fits (sym (pk_none y ts t) ∙ h))
+  pk_sound_at y ts z r (Some a) t fits h = found_one (y ∷ ts) z r (one.sound (y ∷ ts) z r fits (sym (pk_some y ts a t) ∙ h))
 
-  pk_sound : (ts : Tokens) (z : B) (r : Tokens) → length ts ≤ n → Stops I ts → peek f p q ts ≡ ok z r → Found d1 d2 E Either ts z r
-  pk_sound [] z r fits s h = found_two [] z r (two.sound [] z r fits tt h)
-  pk_sound (y ∷ ts) z r fits s h = pk_sound_at y ts z r (f y.token) refl fits s h
+  pk_sound : (ts : Tokens) (z : B) (r : Tokens) → length ts ≤ n → peek f p q ts ≡ ok z r → Found d1 d2 Either ts z r
+  pk_sound [] z r fits h = found_two [] z r (two.sound [] z r fits h)
+  pk_sound (y ∷ ts) z r fits h = pk_sound_at y ts z r (f y.token) refl fits h
 
   stuck_one : (ts : Tokens) (j : ℕ) → Stuck d1 G ts j → Stuck d1 Either ts j
   stuck_one ts j g = record { front = g.front; rest = g.rest; whole = g.whole; count = g.count; value = g.value; more = g.more; written = inl g.written; even = g.even }
@@ -87,13 +87,13 @@ module _ {A B : Type 0} (n d1 d2 : ℕ) (I E : Token → Bool) (f : Token → Op
   stuck_two : (ts : Tokens) (j : ℕ) → Stuck d1 H ts j → Stuck d1 Either ts j
   stuck_two ts j g = record { front = g.front; rest = g.rest; whole = g.whole; count = g.count; value = g.value; more = g.more; written = inr g.written; even = g.even }
 
-  pk_wrong_at : (y : Spanned) (ts : Tokens) (j : ℕ) (o : Option A) → f y.token ≡ o → length (y ∷ ts) ≤ n → I y.token ≡ false → peek f p q (y ∷ ts) ≡ bad j → Stuck d1 Either (y ∷ ts) j
-  pk_wrong_at y ts j None t fits s h = stuck_two (y ∷ ts) j (two.wrong (y ∷ ts) j fits (pk_stops y t s) (sym (pk_none y ts t) ∙ h))
-  pk_wrong_at y ts j (Some a) t fits s h = stuck_one (y ∷ ts) j (one.wrong (y ∷ ts) j fits s (sym (pk_some y ts a t) ∙ h))
+  pk_wrong_at : (y : Spanned) (ts : Tokens) (j : ℕ) (o : Option A) → f y.token ≡ o → length (y ∷ ts) ≤ n → peek f p q (y ∷ ts) ≡ bad j → Stuck d1 Either (y ∷ ts) j
+  pk_wrong_at y ts j None t fits h = stuck_two (y ∷ ts) j (two.wrong (y ∷ ts) j fits (sym (pk_none y ts t) ∙ h))
+  pk_wrong_at y ts j (Some a) t fits h = stuck_one (y ∷ ts) j (one.wrong (y ∷ ts) j fits (sym (pk_some y ts a t) ∙ h))
 
-  pk_wrong : (ts : Tokens) (j : ℕ) → length ts ≤ n → Stops I ts → peek f p q ts ≡ bad j → Stuck d1 Either ts j
-  pk_wrong [] j fits s h = stuck_two [] j (two.wrong [] j fits tt h)
-  pk_wrong (y ∷ ts) j fits s h = pk_wrong_at y ts j (f y.token) refl fits s h
+  pk_wrong : (ts : Tokens) (j : ℕ) → length ts ≤ n → peek f p q ts ≡ bad j → Stuck d1 Either ts j
+  pk_wrong [] j fits h = stuck_two [] j (two.wrong [] j fits h)
+  pk_wrong (y ∷ ts) j fits h = pk_wrong_at y ts j (f y.token) refl fits h
 
   over_one : (ts : Tokens) (j : ℕ) → Passes d1 G ts j → Passes d1 Either ts j
   over_one ts j g = record { front = g.front; opening = g.opening; rest = g.rest; whole = g.whole; count = g.count; value = g.value; more = g.more; written = inl g.written; edge = g.edge; opener = g.opener }
@@ -101,13 +101,13 @@ module _ {A B : Type 0} (n d1 d2 : ℕ) (I E : Token → Bool) (f : Token → Op
   over_two : (ts : Tokens) (j : ℕ) → Passes d1 H ts j → Passes d1 Either ts j
   over_two ts j g = record { front = g.front; opening = g.opening; rest = g.rest; whole = g.whole; count = g.count; value = g.value; more = g.more; written = inr g.written; edge = g.edge; opener = g.opener }
 
-  pk_passed_at : (y : Spanned) (ts : Tokens) (j : ℕ) (o : Option A) → f y.token ≡ o → length (y ∷ ts) ≤ n → I y.token ≡ false → peek f p q (y ∷ ts) ≡ deep j → Passes d1 Either (y ∷ ts) j
-  pk_passed_at y ts j None t fits s h = over_two (y ∷ ts) j (two.passed (y ∷ ts) j fits (pk_stops y t s) (sym (pk_none y ts t) ∙ h))
-  pk_passed_at y ts j (Some a) t fits s h = over_one (y ∷ ts) j (one.passed (y ∷ ts) j fits s (sym (pk_some y ts a t) ∙ h))
+  pk_passed_at : (y : Spanned) (ts : Tokens) (j : ℕ) (o : Option A) → f y.token ≡ o → length (y ∷ ts) ≤ n → peek f p q (y ∷ ts) ≡ deep j → Passes d1 Either (y ∷ ts) j
+  pk_passed_at y ts j None t fits h = over_two (y ∷ ts) j (two.passed (y ∷ ts) j fits (sym (pk_none y ts t) ∙ h))
+  pk_passed_at y ts j (Some a) t fits h = over_one (y ∷ ts) j (one.passed (y ∷ ts) j fits (sym (pk_some y ts a t) ∙ h))
 
-  pk_passed : (ts : Tokens) (j : ℕ) → length ts ≤ n → Stops I ts → peek f p q ts ≡ deep j → Passes d1 Either ts j
-  pk_passed [] j fits s h = over_two [] j (two.passed [] j fits tt h)
-  pk_passed (y ∷ ts) j fits s h = pk_passed_at y ts j (f y.token) refl fits s h
+  pk_passed : (ts : Tokens) (j : ℕ) → length ts ≤ n → peek f p q ts ≡ deep j → Passes d1 Either ts j
+  pk_passed [] j fits h = over_two [] j (two.passed [] j fits h)
+  pk_passed (y ∷ ts) j fits h = pk_passed_at y ts j (f y.token) refl fits h
 
   to_two : (z : B) (w r : Tokens) → length (w ++ r) ≤ n → H z w → Stops E r → (peek f p q (w ++ r) ≡ ok z r) ⊎ (IsDeep (peek f p q (w ++ r)) × (left d1 w ≡ None))
   to_two z w r fits h halt =
@@ -133,24 +133,40 @@ module _ {A B : Type 0} (n d1 d2 : ℕ) (I E : Token → Bool) (f : Token → Op
         ]
   ]
 
-  pk_frozen_at : (y : Spanned) (w b c : Tokens) (o : Option A) → f y.token ≡ o → length (y ∷ (w ++ b)) ≤ n → length (y ∷ (w ++ c)) ≤ n → I y.token ≡ false → peek f p q (y ∷ (w ++ b)) ≡ bad (length b) → SameHead b c → peek f p q (y ∷ (w ++ c)) ≡ bad (length c)
-  pk_frozen_at y w b c None t fits fits2 s h same = pk_none y (w ++ c) t ∙ two.frozen (y ∷ w) b c fits fits2 (pk_stops y t s) (sym (pk_none y (w ++ b) t) ∙ h) same
-  pk_frozen_at y w b c (Some a) t fits fits2 s h same = pk_some y (w ++ c) a t ∙ one.frozen (y ∷ w) b c fits fits2 s (sym (pk_some y (w ++ b) a t) ∙ h) same
+  pk_frozen_at : (y : Spanned) (w b c : Tokens) (o : Option A) → f y.token ≡ o → length (y ∷ (w ++ b)) ≤ n → length (y ∷ (w ++ c)) ≤ n → peek f p q (y ∷ (w ++ b)) ≡ bad (length b) → SameHead b c → peek f p q (y ∷ (w ++ c)) ≡ bad (length c)
+  pk_frozen_at y w b c None t fits fits2 h same = pk_none y (w ++ c) t ∙ two.frozen (y ∷ w) b c fits fits2 (sym (pk_none y (w ++ b) t) ∙ h) same
+  pk_frozen_at y w b c (Some a) t fits fits2 h same = pk_some y (w ++ c) a t ∙ one.frozen (y ∷ w) b c fits fits2 (sym (pk_some y (w ++ b) a t) ∙ h) same
 
-  pk_head_at : (y : Spanned) (b c : Tokens) (o : Option A) → f y.token ≡ o → length (y ∷ b) ≤ n → length (y ∷ c) ≤ n → I y.token ≡ false → peek f p q (y ∷ b) ≡ bad (suc (length b)) → peek f p q (y ∷ c) ≡ bad (suc (length c))
-  pk_head_at y b c None t fits fits2 s h = pk_none y c t ∙ two.frozen [] (y ∷ b) (y ∷ c) fits fits2 (pk_stops y t s) (sym (pk_none y b t) ∙ h) refl
-  pk_head_at y b c (Some a) t fits fits2 s h = pk_some y c a t ∙ one.frozen [] (y ∷ b) (y ∷ c) fits fits2 s (sym (pk_some y b a t) ∙ h) refl
+  pk_head_at : (y : Spanned) (b c : Tokens) (o : Option A) → f y.token ≡ o → length (y ∷ b) ≤ n → length (y ∷ c) ≤ n → peek f p q (y ∷ b) ≡ bad (suc (length b)) → peek f p q (y ∷ c) ≡ bad (suc (length c))
+  pk_head_at y b c None t fits fits2 h = pk_none y c t ∙ two.frozen [] (y ∷ b) (y ∷ c) fits fits2 (sym (pk_none y b t) ∙ h) refl
+  pk_head_at y b c (Some a) t fits fits2 h = pk_some y c a t ∙ one.frozen [] (y ∷ b) (y ∷ c) fits fits2 (sym (pk_some y b a t) ∙ h) refl
 
-  pk_frozen : (w b c : Tokens) → length (w ++ b) ≤ n → length (w ++ c) ≤ n → Stops I (w ++ b) → peek f p q (w ++ b) ≡ bad (length b) → SameHead b c → peek f p q (w ++ c) ≡ bad (length c)
-  pk_frozen [] [] [] fits fits2 s h same = h
-  pk_frozen [] [] (z ∷ c) fits fits2 s h same = absurd same
-  pk_frozen [] (y ∷ b) [] fits fits2 s h same = absurd same
-  pk_frozen [] (y ∷ b) (z ∷ c) fits fits2 s h same =
-      subst (λ (u : Spanned). peek f p q (u ∷ c) ≡ bad (suc (length c))) same (pk_head_at y b c (f y.token) refl fits (omega (arith, fits2)) s h)
-  pk_frozen (y ∷ w) b c fits fits2 s h same = pk_frozen_at y w b c (f y.token) refl fits fits2 s h same
+  pk_frozen : (w b c : Tokens) → length (w ++ b) ≤ n → length (w ++ c) ≤ n → peek f p q (w ++ b) ≡ bad (length b) → SameHead b c → peek f p q (w ++ c) ≡ bad (length c)
+  pk_frozen [] [] [] fits fits2 h same = h
+  pk_frozen [] [] (z ∷ c) fits fits2 h same = absurd same
+  pk_frozen [] (y ∷ b) [] fits fits2 h same = absurd same
+  pk_frozen [] (y ∷ b) (z ∷ c) fits fits2 h same =
+      subst (λ (u : Spanned). peek f p q (u ∷ c) ≡ bad (suc (length c))) same (pk_head_at y b c (f y.token) refl fits (omega (arith, fits2)) h)
+  pk_frozen (y ∷ w) b c fits fits2 h same = pk_frozen_at y w b c (f y.token) refl fits fits2 h same
+
+  pk_steady_at : (x : B) (y : Spanned) (w b c : Tokens) (o : Option A) → f y.token ≡ o → length (y ∷ (w ++ b)) ≤ n → length (y ∷ (w ++ c)) ≤ n → peek f p q (y ∷ (w ++ b)) ≡ ok x b → SameHead b c → peek f p q (y ∷ (w ++ c)) ≡ ok x c
+  pk_steady_at x y w b c None t fits fits2 h same = pk_none y (w ++ c) t ∙ two.steady x (y ∷ w) b c fits fits2 (sym (pk_none y (w ++ b) t) ∙ h) same
+  pk_steady_at x y w b c (Some a) t fits fits2 h same = pk_some y (w ++ c) a t ∙ one.steady x (y ∷ w) b c fits fits2 (sym (pk_some y (w ++ b) a t) ∙ h) same
+
+  pk_kept_at : (x : B) (y : Spanned) (b c : Tokens) (o : Option A) → f y.token ≡ o → length (y ∷ b) ≤ n → length (y ∷ c) ≤ n → peek f p q (y ∷ b) ≡ ok x (y ∷ b) → peek f p q (y ∷ c) ≡ ok x (y ∷ c)
+  pk_kept_at x y b c None t fits fits2 h = pk_none y c t ∙ two.steady x [] (y ∷ b) (y ∷ c) fits fits2 (sym (pk_none y b t) ∙ h) refl
+  pk_kept_at x y b c (Some a) t fits fits2 h = pk_some y c a t ∙ one.steady x [] (y ∷ b) (y ∷ c) fits fits2 (sym (pk_some y b a t) ∙ h) refl
+
+  pk_steady : (x : B) (w b c : Tokens) → length (w ++ b) ≤ n → length (w ++ c) ≤ n → peek f p q (w ++ b) ≡ ok x b → SameHead b c → peek f p q (w ++ c) ≡ ok x c
+  pk_steady x [] [] [] fits fits2 h same = h
+  pk_steady x [] [] (z ∷ c) fits fits2 h same = absurd same
+  pk_steady x [] (y ∷ b) [] fits fits2 h same = absurd same
+  pk_steady x [] (y ∷ b) (z ∷ c) fits fits2 h same =
+      subst (λ (u : Spanned). peek f p q (u ∷ c) ≡ ok x (u ∷ c)) same (pk_kept_at x y b c (f y.token) refl fits (omega (arith, fits2)) h)
+  pk_steady x (y ∷ w) b c fits fits2 h same = pk_steady_at x y w b c (f y.token) refl fits fits2 h same
 
   pub peek_exact : Exact n d1 d2 I E (λ z w. G z w ⊎ H z w) (peek f p q)
-  peek_exact = record { witness = (two.witness.0, two.witness.1, inr two.witness.2); starts = pk_starts; sound = pk_sound; right = pk_right; wrong = pk_wrong; passed = pk_passed; frozen = pk_frozen }
+  peek_exact = record { witness = (two.witness.0, two.witness.1, inr two.witness.2); starts = pk_starts; sound = pk_sound; right = pk_right; wrong = pk_wrong; passed = pk_passed; steady = pk_steady; frozen = pk_frozen }
 
 -- ---- how a declaration begins
 
@@ -211,14 +227,14 @@ if_name_none : (z : Ex) (f : Token → Option (Unit {0})) (u : Token) → f u �
 if_name_none (x.name p n) f u h = ap (option_and_then (λ a. Some n)) h
 if_name_none _ f u h = refl
 
-of_range_exact : (n : ℕ) (I : Token → Bool) → Fresh I → Exact n 200 200 I e_declared RawOfRange (of_range 200 (under 201) (under 200) (under 199))
+of_range_exact : (n : ℕ) (I : Token → Bool) → Fresh I → Exact n 200 200 I e_declared RawOfRange of_range
 unfolding of_range
 of_range_exact n I fresh = next (placed_exact (λ c g. range_some c [] g refl) (range_at n I fresh))
     (λ r2. r.by_exact n n 200 200 200 (omega arith) e_range e_declared (if_name r2.1 (symbol s.Equal)) (λ w y. Image (x.assignment r2.0 w) Writes) (λ z. mark s.Colon ⋅ Image (range_declared r2) IsDeclared z)
-    (λ w y. into (x.assignment r2.0 w) (last_value 200 (under 201) (under 200) (under 199))) (skip (symbol s.Colon) (into (range_declared r2) (declared 200 (under 201) (under 200))))
+    (λ w y. into (x.assignment r2.0 w) any) (skip (symbol s.Colon) (into (range_declared r2) (declared 200 (under 201) (under 200))))
     (λ y w h. subst (λ (u : Token). e_range u ≡ false) (sym ((symbol_class s.Equal).is y.token tt (name_class_is r2.1 (symbol s.Equal) y.token w h).0)) refl)
     (λ y w h. subst (λ (u : Token). left_after 200 u ≡ Some 200) (sym ((symbol_class s.Equal).is y.token tt (name_class_is r2.1 (symbol s.Equal) y.token w h).0)) refl)
-    (λ w y h. mapped (x.assignment r2.0 w) (last_value_exact n))
+    (λ w y h. mapped (x.assignment r2.0 w) (value_exact n))
     (behind (symbol_class s.Colon) (ap (λ q. some_or q false) (if_name_none r2.1 (symbol s.Equal) (tok.Symbol s.Colon) refl)) refl
     (mapped (range_declared r2) (declared_exact 200 (under 201) (under 200) any_at range_at any_in range_in n))))
 
@@ -254,18 +270,18 @@ item_from (x.function p kd n ps c) w (u, v, q, g, h) = inr (inr (inr (inr (inr (
 item_from (x.declaration d) w g = inr (inr (inr (inr (inr (inr (inr (inl (d, refl, g))))))))
 item_from (x.assignment p n c) w g = inr (inr (inr (inr (inr (inr (inr (inr (assignment_from p n c w g))))))))
 
-an_item_exact : (n : ℕ) → Exact n 200 200 nobody e_declared WritesItem (an_item 200 (under 201) (under 200) (under 199))
+an_item_exact : (n : ℕ) → Exact n 200 200 nobody e_declared WritesItem an_item
 unfolding an_item
 an_item_exact n = retold item_to item_from
-    (start (keyword_class k.Include) (λ a. refl) (λ a. refl) (λ a p. mapped (x.include p) (shut_by past_declaration (string_exact n 200 nobody (λ w. refl))))
+    (start (keyword_class k.Include) (λ a. refl) (λ a. refl) (λ a p. mapped (x.include p) (widen (λ u h. refl) (string_exact n 200 nobody (λ w. refl))))
     (start (keyword_class k.Enum) (λ a. refl) (λ a. refl) (λ a p. mapped (λ r. x.enumeration p r.0 r.1) (both (word_exact n 200 nobody (λ w. refl)) (elements_exact n)))
-    (start (keyword_class k.Constraint) (λ a. refl) (λ a. refl) (λ a p. mapped (λ r. x.constraint p r.0 r.1) (constrained_exact n))
-    (start (keyword_class k.Solve) (λ a. refl) (λ a. refl) (λ a p. mapped (λ r. x.solve p r.0 r.1) (solved_exact n))
-    (start (keyword_class k.Output) (λ a. refl) (λ a. refl) (λ a p. mapped (x.output p) (last_value_exact n))
-    (start (keyword_class k.Predicate) (λ a. refl) (λ a. refl) (λ a p. mapped (λ r. x.predicate p r.0 r.1.0 r.1.1) (both (word_exact n 200 nobody (λ w. refl)) (both (parameters_exact n) (behind (symbol_class s.Equal) refl refl (last_value_exact n)))))
+    (start (keyword_class k.Constraint) (λ a. refl) (λ a. refl) (λ a p. mapped (λ r. x.constraint p r.0 r.1) (constraint_exact n))
+    (start (keyword_class k.Solve) (λ a. refl) (λ a. refl) (λ a p. mapped (λ r. x.solve p r.0 r.1) (solve_exact n))
+    (start (keyword_class k.Output) (λ a. refl) (λ a. refl) (λ a p. mapped (x.output p) (value_exact n))
+    (start (keyword_class k.Predicate) (λ a. refl) (λ a. refl) (λ a p. mapped (λ r. x.predicate p r.0 r.1.0 r.1.1) (both (word_exact n 200 nobody (λ w. refl)) (both (parameters_exact n) (behind (symbol_class s.Equal) refl refl (value_exact n)))))
     (start (keyword_class k.Function) (λ a. refl) (λ a. refl) (λ a p. mapped (λ r. x.function p r.0 r.1.0 r.1.1.0 r.1.1.1)
-    (both (kind_exact 200 (under 201) (under 200) any_at range_at any_in range_in n nobody (nobody_fresh_base, refl, refl, refl)) (both (word_exact n 200 nobody (λ w. refl)) (both (parameters_exact n) (behind (symbol_class s.Equal) refl refl (last_value_exact n))))))
-    (peek_exact n 200 200 I7 e_declared kind_word (Image x.declaration WritesDecl) RawOfRange (into x.declaration (declaration 200 (under 201) (under 200))) (of_range 200 (under 201) (under 200) (under 199))
+    (both (kind_exact 200 (under 201) (under 200) any_at range_at any_in range_in n nobody (nobody_fresh_base, refl, refl, refl)) (both (word_exact n 200 nobody (λ w. refl)) (both (parameters_exact n) (behind (symbol_class s.Equal) refl refl (value_exact n))))))
+    (peek_exact n 200 200 I7 e_declared kind_word (Image x.declaration WritesDecl) RawOfRange (into x.declaration (declaration 200 (under 201) (under 200))) of_range
     declaration_begins (mapped x.declaration (declaration_exact 200 (under 201) (under 200) any_at range_at any_in range_in n I7 fresh_kind)) (of_range_exact n (either kind_word I7) fresh_here)))))))))
   where
     I7 : Token → Bool
@@ -291,21 +307,26 @@ item_some (x.assignment p n c) g = begins_no p (tok.Name n) _ g
 -- ---- all of a model
 
 abbrev model_items : Parser (List It × Bool)
-model_items = items (an_item 200 (under 201) (under 200) (under 199))
+model_items = items an_item
 
 exact : (n : ℕ) → Exact n 200 200 nobody all WritesTree model_items
-exact = items_exact 200 e_declared refl WritesItem item_some (an_item 200 (under 201) (under 200) (under 199)) an_item_exact
+exact = items_exact 200 e_declared refl WritesItem item_some an_item an_item_exact
 
 pub one_model : (ts : Tokens) (x y : Items) → WritesTree x ts → WritesTree y ts → IsShallow ts → x ≡ y
 one_model = law.one_value all WritesTree model_items exact
 
+-- what the rule of models reads is written
+pub model_written : (ts : Tokens) (z : Items) (r : Tokens) → model ts ≡ ok z r → WritesTree z ts × IsShallow ts
+unfolding model
+model_written ts z r h = law.whole_found all WritesTree model_items exact ts z r h
+
 pub some_model : (ts : Tokens) → HasAnswer WritesTree ts
 some_model = law.some_answer all WritesTree model_items exact
 
-pub within : (ts : Tokens) (r : Result Tree ParseFault) → Reads tree_view (model ts) r [] → IsWithin (length ts) r
+pub within : (ts : Tokens) (r : Result Tree Stop) → Reads tree_view (model ts) r [] → IsWithin (length ts) r
 unfolding model
 within = t.within tree_view all WritesTree model_items exact
 
-pub answered : (ts : Tokens) (r : Result Tree ParseFault) → Reads tree_view (model ts) r [] → t.Answered tree_view WritesTree ts (from_front (length ts) r)
+pub answered : (ts : Tokens) (r : Result Tree Stop) → Reads tree_view (model ts) r [] → t.Answered tree_view WritesTree ts (from_front (length ts) r)
 unfolding model
 answered = t.answered tree_view all WritesTree model_items exact

@@ -4,7 +4,7 @@ use Rattle.ms_syntax.specs.declared.token.Token.{Token}
 use Rattle.ms_syntax.specs.declared.token.Spanned.{Spanned}
 use Rattle.ms_syntax.specs.declared.token.Place.{Place}
 use Rattle.ms_syntax.specs.Grammar.{Tokens, ◌⋅◌, the, at, opens, left_after}
-use Rattle.ms_expressions.specs.Reading.{Parser, ◌>>=◌, pure, by, must, opening, pair, into, skip, closing, shut}
+use Rattle.ms_expressions.specs.Reading.{Parser, ◌>>=◌, pure, by, must, opening, pair, into, skip, closing}
 use Rattle.ms_parser.proofs.Classes.{Class}
 use Rattle.ms_parser.proofs.Exact as e
 use Rattle.ms_parser.proofs.Exact.{Exact, Seq, Just, One, Cases, nobody, append_nil}
@@ -128,17 +128,6 @@ closed_by {B = B} {n = n} {d1 = d1} {d2 = d2} {d3 = d3} {I = I} {M = M} {G = G} 
 
     from : (x : B) (w : Tokens) → (G x ⋅ the t) w → Seq G (λ b. Seq (One f) (λ z. Just b)) x w
     from x w (u, v, s, g, (y, m, h)) = (x, u, v, s, g, ((tt, y), v, [], sym (append_nil v), (m, ap f h ∙ c.has tt), (refl, refl)))
-
-pub shut_by : {A B : Type 0} {n d1 d2 : ℕ} {I M : Token → Bool} {G : B → Tokens → Type 0} {p : Parser B} (f : Token → Option A)
-    → Exact n d1 d2 I M G p → Exact n d1 d2 I (either f M) G (shut f p)
-shut_by {B = B} {n = n} {d1 = d1} {d2 = d2} {I = I} {M = M} {G = G} {p = p} f one =
-    e.retype n d1 d2 I (either f M) (Seq G (λ b. Just b)) G (shut f p) to from (next one (λ b. r.sealed_exact n d2 M f b))
-  where
-    to : (x : B) (w : Tokens) → Seq G (λ b. Just b) x w → G x w
-    to x w (a, u, v, q, g, (i, z)) = subst (λ (b : B). G b w) (sym i) (subst (G a) (sym (q ∙ ap (λ k. u ++ k) z ∙ append_nil u)) g)
-
-    from : (x : B) (w : Tokens) → G x w → Seq G (λ b. Just b) x w
-    from x w g = (x, w, [], sym (append_nil w), g, (refl, refl))
 
 -- a choice by the next token
 module _ {A B : Type 0} {f : Token → Option A} {t : A → Token} (c : Class f t) (R : A → Place → B → Tokens → Type 0) (Q : B → Tokens → Type 0) where

@@ -6,7 +6,7 @@ use Rattle.ms_syntax.specs.declared.token.Spanned.{Spanned}
 use Rattle.ms_syntax.specs.Grammar.{Tokens, opens, closes, left, left_after}
 use Rattle.ms_expressions.specs.Reading.{Out, ok, bad, deep, Parser, and_then, ◌>>=◌, pure, pick, deeper}
 use Rattle.ms_parser.proofs.Cases.{opening, many_to, many}
-use Rattle.ms_parser.proofs.Exact.{append_nil, Stops, nobody, stops_nobody, SameHead, IsDeep, Found, Stuck, Passes, Exact, Seq, Just, Cases, Many, bind, pure_exact, retype, extend}
+use Rattle.ms_parser.proofs.Exact.{append_nil, Stops, nobody, SameHead, IsDeep, Found, Stuck, Passes, Exact, Seq, Just, Cases, Many, bind, pure_exact, retype, extend}
 use Rattle.ms_parser.proofs.Choices.{some_or, either, by_exact}
 
 -- ---- a choice by a token that opens, where nothing more may open
@@ -16,9 +16,6 @@ module _ {A B : Type 0} (n d' : ℕ) (I E : Token → Bool) (f : Token → Optio
     (clear : (y : Spanned) (a : A) → f y.token ≡ Some a → I y.token ≡ false)
     (needs : (y : Spanned) (a : A) → f y.token ≡ Some a → opens y.token ≡ true)
     (some : (a : A) (y : Spanned) → (x : B) × (v : Tokens) × P a y x v) (two : Exact n 0 d' (either f I) E Q q) where
-  sh_stops : (y : Spanned) → f y.token ≡ None → I y.token ≡ false → either f I y.token ≡ false
-  sh_stops y h i = ap (λ o. some_or o (I y.token)) h ∙ i
-
   sh_is_none : (o : Option A) (b : Bool) → some_or o b ≡ false → o ≡ None
   sh_is_none None b h = refl
   sh_is_none (Some a) b h = absurd (cc)
@@ -35,47 +32,50 @@ module _ {A B : Type 0} (n d' : ℕ) (I E : Token → Bool) (f : Token → Optio
   sh_starts x w r (inl (a, y, v, s, h, g)) halt = subst (λ (u : Tokens). Stops I (u ++ r)) (sym s) (clear y a h)
   sh_starts x w r (inr g) halt = sh_clear (w ++ r) (two.starts x w r g halt)
 
-  sh_found : (ts : Tokens) (x : B) (r : Tokens) → Found 0 d' E Q ts x r → Found 0 d' E (Cases f P Q) ts x r
-  sh_found ts x r g = record { front = g.front; whole = g.whole; written = inr g.written; stops = g.stops; even = g.even }
+  sh_found : (ts : Tokens) (x : B) (r : Tokens) → Found 0 d' Q ts x r → Found 0 d' (Cases f P Q) ts x r
+  sh_found ts x r g = record { front = g.front; whole = g.whole; written = inr g.written; even = g.even }
 
-  sh_sound_at : (y : Spanned) (ts : Tokens) (x : B) (r : Tokens) (o : Option A) → f y.token ≡ o → length (y ∷ ts) ≤ n → I y.token ≡ false → pick o (λ a. deep (length ts)) (q (y ∷ ts)) ≡ ok x r → Found 0 d' E (Cases f P Q) (y ∷ ts) x r
-  sh_sound_at y ts x r None t fits s h = sh_found (y ∷ ts) x r (two.sound (y ∷ ts) x r fits (sh_stops y t s) h)
-  sh_sound_at y ts x r (Some a) t fits s h = absurd (cc)
+  sh_sound_at : (y : Spanned) (ts : Tokens) (x : B) (r : Tokens) (o : Option A) → f y.token ≡ o → length (y ∷ ts) ≤ n → pick o (λ a. deep (length ts)) (q (y ∷ ts)) ≡ ok x r → Found 0 d' (Cases f P Q) (y ∷ ts) x r
+  sh_sound_at y ts x r None t fits h = sh_found (y ∷ ts) x r (two.sound (y ∷ ts) x r fits h)
+  sh_sound_at y ts x r (Some a) t fits h = absurd (cc)
 
-  sh_sound : (ts : Tokens) (x : B) (r : Tokens) → length ts ≤ n → Stops I ts → opening 0 f p q ts ≡ ok x r → Found 0 d' E (Cases f P Q) ts x r
-  sh_sound [] x r fits s h = sh_found [] x r (two.sound [] x r fits tt h)
-  sh_sound (y ∷ ts) x r fits s h = sh_sound_at y ts x r (f y.token) refl fits s h
+  sh_sound : (ts : Tokens) (x : B) (r : Tokens) → length ts ≤ n → opening 0 f p q ts ≡ ok x r → Found 0 d' (Cases f P Q) ts x r
+  sh_sound [] x r fits h = sh_found [] x r (two.sound [] x r fits h)
+  sh_sound (y ∷ ts) x r fits h = sh_sound_at y ts x r (f y.token) refl fits h
 
   sh_stuck : (ts : Tokens) (k : ℕ) → Stuck 0 Q ts k → Stuck 0 (Cases f P Q) ts k
   sh_stuck ts k g = record { front = g.front; rest = g.rest; whole = g.whole; count = g.count; value = g.value; more = g.more; written = inr g.written; even = g.even }
 
-  sh_wrong_at : (y : Spanned) (ts : Tokens) (k : ℕ) (o : Option A) → f y.token ≡ o → length (y ∷ ts) ≤ n → I y.token ≡ false → pick o (λ a. deep (length ts)) (q (y ∷ ts)) ≡ bad k → Stuck 0 (Cases f P Q) (y ∷ ts) k
-  sh_wrong_at y ts k None t fits s h = sh_stuck (y ∷ ts) k (two.wrong (y ∷ ts) k fits (sh_stops y t s) h)
-  sh_wrong_at y ts k (Some a) t fits s h = absurd (cc)
+  sh_wrong_at : (y : Spanned) (ts : Tokens) (k : ℕ) (o : Option A) → f y.token ≡ o → length (y ∷ ts) ≤ n → pick o (λ a. deep (length ts)) (q (y ∷ ts)) ≡ bad k → Stuck 0 (Cases f P Q) (y ∷ ts) k
+  sh_wrong_at y ts k None t fits h = sh_stuck (y ∷ ts) k (two.wrong (y ∷ ts) k fits h)
+  sh_wrong_at y ts k (Some a) t fits h = absurd (cc)
 
-  sh_wrong : (ts : Tokens) (k : ℕ) → length ts ≤ n → Stops I ts → opening 0 f p q ts ≡ bad k → Stuck 0 (Cases f P Q) ts k
-  sh_wrong [] k fits s h = sh_stuck [] k (two.wrong [] k fits tt h)
-  sh_wrong (y ∷ ts) k fits s h = sh_wrong_at y ts k (f y.token) refl fits s h
+  sh_wrong : (ts : Tokens) (k : ℕ) → length ts ≤ n → opening 0 f p q ts ≡ bad k → Stuck 0 (Cases f P Q) ts k
+  sh_wrong [] k fits h = sh_stuck [] k (two.wrong [] k fits h)
+  sh_wrong (y ∷ ts) k fits h = sh_wrong_at y ts k (f y.token) refl fits h
 
   sh_over : (ts : Tokens) (k : ℕ) → Passes 0 Q ts k → Passes 0 (Cases f P Q) ts k
   sh_over ts k g = record { front = g.front; opening = g.opening; rest = g.rest; whole = g.whole; count = g.count; value = g.value; more = g.more; written = inr g.written; edge = g.edge; opener = g.opener }
 
-  sh_passed_at : (y : Spanned) (ts : Tokens) (k : ℕ) (o : Option A) → f y.token ≡ o → length (y ∷ ts) ≤ n → I y.token ≡ false → pick o (λ a. deep (length ts)) (q (y ∷ ts)) ≡ deep k → Passes 0 (Cases f P Q) (y ∷ ts) k
-  sh_passed_at y ts k None t fits s h = sh_over (y ∷ ts) k (two.passed (y ∷ ts) k fits (sh_stops y t s) h)
-  sh_passed_at y ts k (Some a) t fits s h =
+  sh_passed_at : (y : Spanned) (ts : Tokens) (k : ℕ) (o : Option A) → f y.token ≡ o → length (y ∷ ts) ≤ n → pick o (λ a. deep (length ts)) (q (y ∷ ts)) ≡ deep k → Passes 0 (Cases f P Q) (y ∷ ts) k
+  sh_passed_at y ts k None t fits h = sh_over (y ∷ ts) k (two.passed (y ∷ ts) k fits h)
+  sh_passed_at y ts k (Some a) t fits h =
       let x = some a y in
       record { front = []; opening = y; rest = ts; whole = refl; count = cc; value = x.0; more = x.1; written = inl (a, y, x.1, refl, t, x.2); edge = refl; opener = needs y a t }
 
-  sh_passed : (ts : Tokens) (k : ℕ) → length ts ≤ n → Stops I ts → opening 0 f p q ts ≡ deep k → Passes 0 (Cases f P Q) ts k
-  sh_passed [] k fits s h = sh_over [] k (two.passed [] k fits tt h)
-  sh_passed (y ∷ ts) k fits s h = sh_passed_at y ts k (f y.token) refl fits s h
+  sh_passed : (ts : Tokens) (k : ℕ) → length ts ≤ n → opening 0 f p q ts ≡ deep k → Passes 0 (Cases f P Q) ts k
+  sh_passed [] k fits h = sh_over [] k (two.passed [] k fits h)
+  sh_passed (y ∷ ts) k fits h = sh_passed_at y ts k (f y.token) refl fits h
 
   sh_taken : (y : Spanned) (ts : Tokens) (a : A) → f y.token ≡ Some a → opening 0 f p q (y ∷ ts) ≡ deep (length ts)
   sh_taken y ts a h = ap (λ o. pick o (λ a. deep (length ts)) (q (y ∷ ts))) h
 
+  sh_other : (y : Spanned) (ts : Tokens) → f y.token ≡ None → opening 0 f p q (y ∷ ts) ≡ q (y ∷ ts)
+  sh_other y ts h = ap (λ o. pick o (λ a. deep (length ts)) (q (y ∷ ts))) h
+
   sh_skipped : (ts : Tokens) → Stops (either f I) ts → opening 0 f p q ts ≡ q ts
   sh_skipped [] s = refl
-  sh_skipped (y ∷ ts) s = ap (λ o. pick o (λ a. deep (length ts)) (q (y ∷ ts))) (sh_is_none (f y.token) (I y.token) s)
+  sh_skipped (y ∷ ts) s = sh_other y ts (sh_is_none (f y.token) (I y.token) s)
 
   sh_closed : (y : Spanned) (v : Tokens) → opens y.token ≡ true → left 0 (y ∷ v) ≡ None
   sh_closed y v h = ap (λ b. option_and_then (λ m. left m v) (if b then None else (if closes y.token then Some 1 else Some 0))) h
@@ -92,27 +92,44 @@ module _ {A B : Type 0} (n d' : ℕ) (I E : Token → Bool) (f : Token → Optio
       let cons : R (y ∷ v) = inr (subst (λ (o : Out B). IsDeep o) (sym (sh_taken y (v ++ r) a h)) tt, sh_closed y v (needs y a h)) in
       subst R (sym s) cons
 
-  sh_frozen_at : (y : Spanned) (w b c : Tokens) (o : Option A) → f y.token ≡ o → length (y ∷ (w ++ b)) ≤ n → length (y ∷ (w ++ c)) ≤ n → I y.token ≡ false → pick o (λ a. deep (length (w ++ b))) (q (y ∷ (w ++ b))) ≡ bad (length b) → SameHead b c → pick o (λ a. deep (length (w ++ c))) (q (y ∷ (w ++ c))) ≡ bad (length c)
-  sh_frozen_at y w b c None t fits fits2 s h same = two.frozen (y ∷ w) b c fits fits2 (sh_stops y t s) h same
-  sh_frozen_at y w b c (Some a) t fits fits2 s h same = absurd (cc)
+  sh_frozen_at : (y : Spanned) (w b c : Tokens) (o : Option A) → f y.token ≡ o → length (y ∷ (w ++ b)) ≤ n → length (y ∷ (w ++ c)) ≤ n → pick o (λ a. deep (length (w ++ b))) (q (y ∷ (w ++ b))) ≡ bad (length b) → SameHead b c → pick o (λ a. deep (length (w ++ c))) (q (y ∷ (w ++ c))) ≡ bad (length c)
+  sh_frozen_at y w b c None t fits fits2 h same = two.frozen (y ∷ w) b c fits fits2 h same
+  sh_frozen_at y w b c (Some a) t fits fits2 h same = absurd (cc)
 
   sh_longer : (y : Spanned) (b : Tokens) (o : Option A) → f y.token ≡ o → length (y ∷ b) ≤ n → pick o (λ a. deep (length b)) (q (y ∷ b)) ≡ bad (suc (length b)) → o ≡ None
   sh_longer y b None t fits h = refl
   sh_longer y b (Some a) t fits h = absurd (cc)
 
-  sh_frozen : (w b c : Tokens) → length (w ++ b) ≤ n → length (w ++ c) ≤ n → Stops I (w ++ b) → opening 0 f p q (w ++ b) ≡ bad (length b) → SameHead b c → opening 0 f p q (w ++ c) ≡ bad (length c)
-  sh_frozen [] [] [] fits fits2 s h same = h
-  sh_frozen [] [] (z ∷ c) fits fits2 s h same = absurd same
-  sh_frozen [] (y ∷ b) [] fits fits2 s h same = absurd same
-  sh_frozen [] (y ∷ b) (z ∷ c) fits fits2 s h same =
+  sh_frozen : (w b c : Tokens) → length (w ++ b) ≤ n → length (w ++ c) ≤ n → opening 0 f p q (w ++ b) ≡ bad (length b) → SameHead b c → opening 0 f p q (w ++ c) ≡ bad (length c)
+  sh_frozen [] [] [] fits fits2 h same = h
+  sh_frozen [] [] (z ∷ c) fits fits2 h same = absurd same
+  sh_frozen [] (y ∷ b) [] fits fits2 h same = absurd same
+  sh_frozen [] (y ∷ b) (z ∷ c) fits fits2 h same =
       let none = sh_longer y b (f y.token) refl fits h in
-      let stops = sh_stops y none s in
       let P : Spanned → Type 0 = λ x. opening 0 f p q (x ∷ c) ≡ bad (suc (length c)) in
-      subst P same (sh_skipped (y ∷ c) stops ∙ two.frozen [] (y ∷ b) (y ∷ c) fits (omega (arith, fits2)) stops (sym (sh_skipped (y ∷ b) stops) ∙ h) refl)
-  sh_frozen (y ∷ w) b c fits fits2 s h same = sh_frozen_at y w b c (f y.token) refl fits fits2 s h same
+      subst P same (sh_other y c none ∙ two.frozen [] (y ∷ b) (y ∷ c) fits (omega (arith, fits2)) (sym (sh_other y b none) ∙ h) refl)
+  sh_frozen (y ∷ w) b c fits fits2 h same = sh_frozen_at y w b c (f y.token) refl fits fits2 h same
+
+  sh_steady_at : (x : B) (y : Spanned) (w b c : Tokens) (o : Option A) → length (y ∷ (w ++ b)) ≤ n → length (y ∷ (w ++ c)) ≤ n → pick o (λ a. deep (length (w ++ b))) (q (y ∷ (w ++ b))) ≡ ok x b → SameHead b c → pick o (λ a. deep (length (w ++ c))) (q (y ∷ (w ++ c))) ≡ ok x c
+  sh_steady_at x y w b c None fits fits2 h same = two.steady x (y ∷ w) b c fits fits2 h same
+  sh_steady_at x y w b c (Some a) fits fits2 h same = absurd (cc)
+
+  sh_untaken : (x : B) (y : Spanned) (b : Tokens) (o : Option A) → pick o (λ a. deep (length b)) (q (y ∷ b)) ≡ ok x (y ∷ b) → o ≡ None
+  sh_untaken x y b None h = refl
+  sh_untaken x y b (Some a) h = absurd (cc)
+
+  sh_steady : (x : B) (w b c : Tokens) → length (w ++ b) ≤ n → length (w ++ c) ≤ n → opening 0 f p q (w ++ b) ≡ ok x b → SameHead b c → opening 0 f p q (w ++ c) ≡ ok x c
+  sh_steady x [] [] [] fits fits2 h same = h
+  sh_steady x [] [] (z ∷ c) fits fits2 h same = absurd same
+  sh_steady x [] (y ∷ b) [] fits fits2 h same = absurd same
+  sh_steady x [] (y ∷ b) (z ∷ c) fits fits2 h same =
+      let none = sh_untaken x y b (f y.token) h in
+      let P : Spanned → Type 0 = λ v. opening 0 f p q (v ∷ c) ≡ ok x (v ∷ c) in
+      subst P same (sh_other y c none ∙ two.steady x [] (y ∷ b) (y ∷ c) fits (omega (arith, fits2)) (sym (sh_other y b none) ∙ h) refl)
+  sh_steady x (y ∷ w) b c fits fits2 h same = sh_steady_at x y w b c (f y.token) fits fits2 h same
 
   pub shut_exact : Exact n 0 d' I E (Cases f P Q) (opening 0 f p q)
-  shut_exact = record { witness = (two.witness.0, two.witness.1, inr two.witness.2); starts = sh_starts; sound = sh_sound; right = sh_right; wrong = sh_wrong; passed = sh_passed; frozen = sh_frozen }
+  shut_exact = record { witness = (two.witness.0, two.witness.1, inr two.witness.2); starts = sh_starts; sound = sh_sound; right = sh_right; wrong = sh_wrong; passed = sh_passed; steady = sh_steady; frozen = sh_frozen }
 
 -- ---- any number of times
 
@@ -147,10 +164,6 @@ module _ {A B : Type 0} (d e : ℕ) (I : Token → Bool) (f : Token → Option A
   many_starts [] w r g halt = subst (λ (u : Tokens). Stops I (u ++ r)) (sym g) (many_rest r halt)
   many_starts (x ∷ xs) w r (a, y, u, v, s, h, k, g) halt = subst (λ (t : Tokens). Stops I (t ++ r)) (sym s) (clear y a h)
 
-  no_tokens : (ts : Tokens) → length ts ≤ 0 → ts ≡ []
-  no_tokens [] h = refl
-  no_tokens (y ∷ ts) h = absurd (omega arith)
-
   zero_right : (xs : List B) (w r : Tokens) → length (w ++ r) ≤ 0 → (Many f P) xs w → Stops (either f I) r → (pure {A = List B} [] (w ++ r) ≡ ok xs r) ⊎ (IsDeep (pure {A = List B} [] (w ++ r)) × (left d w ≡ None))
   zero_right [] w r fits g halt = let w_is : w ≡ [] = g in let P : Tokens → Type 0 = λ u. (pure {A = List B} [] (u ++ r)) ≡ ok [] r in inl (subst P (sym w_is) refl)
   zero_right (x ∷ xs) w r fits (a, y, u, v, s, h, k, g) halt = absurd (omega (arith, subst (λ (t : Tokens). length (t ++ r) ≤ 0) s fits))
@@ -159,14 +172,14 @@ module _ {A B : Type 0} (d e : ℕ) (I : Token → Bool) (f : Token → Option A
   zero_exact = record {
     witness = ([], [], refl);
     starts = many_starts;
-    sound = λ ts x r fits s h.
+    sound = λ ts x r fits h.
         let value : ◌≡◌ {A = List B} [] x = cc in let rest : ts ≡ r = cc in
-        let none : ts ≡ [] = no_tokens ts fits in
-        record { front = []; whole = rest; written = subst (λ (z : List B). (Many f P) z []) value refl; stops = subst (Stops (either f I)) (sym none ∙ rest) tt; even = refl };
+        record { front = []; whole = rest; written = subst (λ (z : List B). (Many f P) z []) value refl; even = refl };
     right = zero_right;
-    wrong = λ ts k fits s h. absurd (cc);
-    passed = λ ts k fits s h. absurd (cc);
-    frozen = λ w b c fits fits2 s h same. absurd (cc);
+    wrong = λ ts k fits h. absurd (cc);
+    passed = λ ts k fits h. absurd (cc);
+    steady = (pure_exact {A = List B} 0 d I []).steady;
+    frozen = λ w b c fits fits2 h same. absurd (cc);
   }
 
   pub many_to_exact : (n : ℕ) → Exact n d d I (either f I) (Many f P) (many_to n f p)
@@ -192,7 +205,7 @@ module _ {A B : Type 0} (d e : ℕ) (I : Token → Bool) (f : Token → Option A
           → ((r : Tokens) → length r ≤ k → length r ≤ n → many_to k f p r ≡ many_to n f p r)
           → and_then o (λ x. many_to k f p >>= λ xs. pure (x ∷ xs)) ≡ and_then o (λ x. many_to n f p >>= λ xs. pure (x ∷ xs))
       enough_then k n a y ts (ok x r) t e h i again =
-          let g = (one k a y t).sound ts x r h (stops_nobody ts) e in
+          let g = (one k a y t).sound ts x r h e in
           let shorter : length r ≤ length ts = omega (arith, ap length g.whole, length-append g.front r) in
           ap (λ o. and_then o (λ xs. pure (x ∷ xs))) (again r (omega arith) (omega arith))
       enough_then k n a y ts (bad j) t e h i again = refl

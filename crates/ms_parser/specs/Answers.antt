@@ -1,8 +1,10 @@
 -- What a call answers where one value is written so, or one fault stands; and that tokens have an answer.
 use Rattle.std.specs.Prelude.{◌≡◌, ◌≤◌, ◌<◌, ◌-◌, ◌⊎◌, ℕ, Result, Ok, Err}
 use Rattle.ms_syntax.specs.Grammar.{Tokens, IsShallow, SyntaxAt, DeepAt}
-use Rattle.ms_expressions.specs.declared.fault.ParseFault.{ParseFault}
-use Rattle.ms_expressions.specs.declared.fault.ParseFault.TheVariants.{Syntax, Deep, Memory}
+use Rattle.ms_expressions.specs.declared.stop.Stop.{Stop}
+use Rattle.ms_expressions.specs.declared.stop.Stop.TheVariants as stop
+use Rattle.ms_parser.specs.declared.fault.ParseFault.{ParseFault}
+use Rattle.ms_parser.specs.declared.fault.ParseFault.TheVariants.{Syntax, Deep, Memory}
 
 abbrev pub GivesUnlessMemory : {X A : Type 0} → (X → A) → A → Result X ParseFault → Type 0
 GivesUnlessMemory view x (Ok e) = view e ≡ x
@@ -22,15 +24,15 @@ abbrev pub HasAnswer : {A : Type 0} → (A → Tokens → Type 0) → Tokens →
 HasAnswer {A} writes ts = ((x : A) × writes x ts × IsShallow ts) ⊎ ((k : ℕ) × SyntaxAt writes ts k) ⊎ ((k : ℕ) × DeepAt writes ts k)
 
 -- of n tokens, a fault told by how many are left tells of one of them, or of their end
-abbrev pub IsWithin : {X : Type 0} → ℕ → Result X ParseFault → Type 0
+abbrev pub IsWithin : {X : Type 0} → ℕ → Result X Stop → Type 0
 IsWithin n (Ok a) = Unit {0}
-IsWithin n (Err Memory) = Unit {0}
-IsWithin n (Err (Syntax left)) = left ≤ n
-IsWithin n (Err (Deep left)) = left < n
+IsWithin n (Err stop.Memory) = Unit {0}
+IsWithin n (Err (stop.Syntax left)) = left ≤ n
+IsWithin n (Err (stop.Deep left)) = left < n
 
 -- the same with a fault told by its place from the front
-abbrev pub from_front : {X : Type 0} → ℕ → Result X ParseFault → Result X ParseFault
+abbrev pub from_front : {X : Type 0} → ℕ → Result X Stop → Result X ParseFault
 from_front n (Ok a) = Ok a
-from_front n (Err Memory) = Err Memory
-from_front n (Err (Syntax left)) = Err (Syntax (n - left))
-from_front n (Err (Deep left)) = Err (Deep (n - left - 1))
+from_front n (Err stop.Memory) = Err Memory
+from_front n (Err (stop.Syntax left)) = Err (Syntax (n - left))
+from_front n (Err (stop.Deep left)) = Err (Deep (n - left - 1))

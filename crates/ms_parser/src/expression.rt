@@ -4,19 +4,20 @@ ghost use Rattle.std.specs.Prelude.{◌≡◌, ℕ, [], IfOk, Err};
 ghost use Rattle.ms_syntax.specs.Tree.{Ex, ex_view};
 ghost use Rattle.ms_syntax.specs.Grammar.{Writes, IsShallow, SyntaxAt, DeepAt};
 ghost use Rattle.ms_expressions.specs.Reads.{Reads};
-ghost use Rattle.ms_expressions.specs.Rules as spec;
+ghost use Rattle.ms_parser.specs.Items as rules;
 ghost use Rattle.ms_parser.specs.Answers.{GivesUnlessMemory, FailsUnlessMemory};
 
 use crate::answer::answer;
-use ms_expressions::{Cursor, ParseFault, Reach, expr};
+use crate::fault::ParseFault;
+use ms_expressions::{Cursor, Reach, Stop, expr};
 use ms_syntax::{Expr, Spanned};
 use std::alloc::Global;
 
 /// How deep brackets and `if` may nest.
 pub const MAX_NESTING: usize = 200;
 
-fn whole_statement(alloc: Global, tokens: &[Spanned]) -> Result<Expr, ParseFault>
-    ensures { Reads ex_view (spec.statement tokens.now) result [] }
+fn whole_statement(alloc: Global, tokens: &[Spanned]) -> Result<Expr, Stop>
+    ensures { Reads ex_view (rules.statement tokens.now) result [] }
 {
     let mut cursor = Cursor::new(tokens);
     let read = expr(alloc, &mut cursor, MAX_NESTING + 1, Reach::Any)?;

@@ -18,14 +18,16 @@
 mod answer;
 mod data;
 mod expression;
+mod fault;
 mod item;
 mod laws;
+mod list;
 mod models;
 mod outermost;
 mod parameters;
 
 pub use data::assignments;
 pub use expression::{MAX_NESTING, statement};
+pub use fault::ParseFault;
 pub use laws::{chains_group, one_data, one_expression, one_model, some_answer};
 pub use models::model;
-pub use ms_expressions::ParseFault;

@@ -1,59 +1,41 @@
-//! Whole models.
+//! Models.
 
-ghost use Rattle.std.specs.Prelude.{◌≡◌, ℕ, [], map, IfOk, Err};
-ghost use Rattle.ms_syntax.specs.Tree.{Items, item_view, tree_view};
+ghost use Rattle.std.specs.Prelude.{◌≡◌, ℕ, [], IfOk, Err};
+ghost use Rattle.ms_syntax.specs.Tree.{Items, tree_view};
 ghost use Rattle.ms_syntax.specs.Grammar.{WritesTree, IsShallow, SyntaxAt, DeepAt};
-ghost use Rattle.ms_expressions.specs.Reads.{Reads, turn_view};
+ghost use Rattle.ms_expressions.specs.Reads.{Reads};
 ghost use Rattle.ms_parser.specs.Answers.{GivesUnlessMemory, FailsUnlessMemory};
-ghost use Rattle.ms_expressions.specs.Rules as rules;
-ghost use Rattle.ms_parser.specs.Outermost as spec;
+ghost use Rattle.ms_parser.specs.Items as rules;
 
 use crate::answer::answer;
+use crate::fault::ParseFault;
 use crate::item::item;
-use ms_expressions::{Cursor, ParseFault, Turn};
-use ms_syntax::{Item, Spanned, Symbol, Tree};
+use crate::list::{Entry, list};
+use ms_expressions::{Cursor, Stop};
+use ms_syntax::{Item, Spanned, Tree};
 use std::alloc::Global;
 
-/// An item behind a semicolon, or the end and whether a last semicolon is there.
-#[tactic(auto, unfolding(ms_expressions::specs::Rules::item_turn))]
-fn item_turn(alloc: Global, tokens: &mut Cursor<'_>) -> Result<Turn<Item>, ParseFault>
-    ensures { Reads (turn_view item_view) (rules.item_turn spec.an_item tokens.old) result tokens.new }
-{
-    if !tokens.takes(Symbol::Semicolon) {
-        tokens.finish()?;
-        return Ok(Turn::Last(false));
+impl Entry for Item {
+    ghost use Rattle.ms_syntax.specs.Tree.{It, item_view};
+    ghost use Rattle.ms_parser.specs.Items.{an_item};
+
+    ghost Seen = { It };
+
+    ghost view = { item_view };
+
+    ghost rule = { an_item };
+
+    fn read(alloc: Global, tokens: &mut Cursor<'_>) -> Result<Item, Stop> {
+        item(alloc, tokens)
     }
-    if tokens.is_empty() {
-        return Ok(Turn::Last(true));
-    }
-    Ok(Turn::Item(item(alloc, tokens)?))
 }
 
-/// Items up to the end of the tokens, and whether a last semicolon is there.
-fn items(alloc: Global, tokens: &mut Cursor<'_>) -> Result<(Vec<Item>, bool), ParseFault>
-    ensures { Reads (λ r. (map item_view r.0.items, r.1)) (rules.items spec.an_item tokens.old) result tokens.new }
-{
-    let mut found = Vec::new(alloc);
-    if tokens.is_empty() {
-        return Ok((found, false));
-    }
-    found.push(item(alloc, tokens)?)?;
-    for _turn in 0..tokens.left() {
-        match item_turn(alloc, tokens)? {
-            Turn::Item(item) => found.push(item)?,
-            Turn::Last(closed) => return Ok((found, closed)),
-        }
-    }
-    tokens.finish()?;
-    Ok((found, false))
-}
-
-#[tactic(auto, unfolding(ms_expressions::specs::Rules::model))]
-fn whole_model(alloc: Global, tokens: &[Spanned]) -> Result<Tree, ParseFault>
+#[tactic(auto, unfolding(crate::specs::Items::model))]
+fn whole_model(alloc: Global, tokens: &[Spanned]) -> Result<Tree, Stop>
     ensures { Reads tree_view (rules.model tokens.now) result [] }
 {
     let mut cursor = Cursor::new(tokens);
-    let (items, closed) = items(alloc, &mut cursor)?;
+    let (items, closed) = list(alloc, &mut cursor)?;
     cursor.finish()?;
     Ok(Tree { items, closed })
 }
