@@ -1,7 +1,6 @@
-//! Texts of the whole grammar, right and wrong, as the tests of `ms_parser`.
+//! Real texts of the whole grammar, right and wrong, as the tests of `ms_parser`, and where the nodes of trees stand.
 //!
-//! A text is written as words with spaces between, of which [`tests`] makes tokens: so no reader of bytes is needed
-//! here. The tests stand in a crate of their own, so that `ms_parser` is proved once.
+//! The tests stand in a crate of their own, above the lexer, so that `ms_parser` is proved once.
 #![tactic(auto)]
 
 #[cfg(test)]

@@ -1,126 +1,24 @@
-//! Texts, their tokens divided by spaces: a word of the language, a mark, a number, a text, and else a name.
+//! Real texts, by the lexer.
 
 mod models;
+mod places;
 mod shapes;
 
 use ms_parser::{ParseFault, statement};
-use ms_syntax::{Keyword, Place, Spanned, Symbol, Token, Word};
-use std::alloc::{AllocError, Global};
+use ms_syntax::Spanned;
+use std::alloc::Global;
+use std::process::Abort;
+use std::test::Fail;
 
-fn keyword(text: &str) -> Option<Keyword> {
-    Some(match text {
-        "ann" => Keyword::Ann,
-        "array" => Keyword::Array,
-        "bool" => Keyword::Bool,
-        "constraint" => Keyword::Constraint,
-        "div" => Keyword::Div,
-        "else" => Keyword::Else,
-        "elseif" => Keyword::Elseif,
-        "endif" => Keyword::Endif,
-        "enum" => Keyword::Enum,
-        "false" => Keyword::False,
-        "function" => Keyword::Function,
-        "if" => Keyword::If,
-        "in" => Keyword::In,
-        "include" => Keyword::Include,
-        "int" => Keyword::Int,
-        "let" => Keyword::Let,
-        "maximize" => Keyword::Maximize,
-        "minimize" => Keyword::Minimize,
-        "mod" => Keyword::Mod,
-        "not" => Keyword::Not,
-        "of" => Keyword::Of,
-        "output" => Keyword::Output,
-        "par" => Keyword::Par,
-        "predicate" => Keyword::Predicate,
-        "satisfy" => Keyword::Satisfy,
-        "search" => Keyword::Search,
-        "set" => Keyword::Set,
-        "solve" => Keyword::Solve,
-        "string" => Keyword::String,
-        "then" => Keyword::Then,
-        "true" => Keyword::True,
-        "var" => Keyword::Var,
-        "where" => Keyword::Where,
-        "xor" => Keyword::Xor,
-        _ => return None,
-    })
-}
-
-fn symbol(text: &str) -> Option<Symbol> {
-    Some(match text {
-        "<->" => Symbol::DoubleArrow,
-        "->" => Symbol::RightArrow,
-        "<-" => Symbol::LeftArrow,
-        "<=" => Symbol::AtMost,
-        ">=" => Symbol::AtLeast,
-        "=" => Symbol::Equal,
-        "!=" => Symbol::NotEqual,
-        "\\/" => Symbol::Or,
-        "/\\" => Symbol::And,
-        ".." => Symbol::DotDot,
-        "++" => Symbol::PlusPlus,
-        "::" => Symbol::ColonColon,
-        "[|" => Symbol::OpenRows,
-        "|]" => Symbol::CloseRows,
-        "<" => Symbol::Less,
-        ">" => Symbol::Greater,
-        "+" => Symbol::Plus,
-        "-" => Symbol::Minus,
-        "*" => Symbol::Star,
-        "(" => Symbol::OpenParenthesis,
-        ")" => Symbol::CloseParenthesis,
-        "[" => Symbol::OpenBracket,
-        "]" => Symbol::CloseBracket,
-        "{" => Symbol::OpenBrace,
-        "}" => Symbol::CloseBrace,
-        "," => Symbol::Comma,
-        ";" => Symbol::Semicolon,
-        ":" => Symbol::Colon,
-        "|" => Symbol::Bar,
-        _ => return None,
-    })
-}
-
-fn token(alloc: Global, text: &str) -> Result<Token, AllocError> {
-    if let Some(keyword) = keyword(text) {
-        return Ok(Token::Keyword(keyword));
-    }
-    if let Some(symbol) = symbol(text) {
-        return Ok(Token::Symbol(symbol));
-    }
-    if let Ok(number) = text.parse::<u64>() {
-        return Ok(Token::Number(number));
-    }
-    if let Some(text) = text.strip_prefix('"') {
-        return Ok(Token::Text(Word::from_slice(alloc, text.as_bytes())?));
-    }
-    Ok(Token::Name(Word::from_slice(alloc, text.as_bytes())?))
-}
-
-pub fn tokens(alloc: Global, text: &str) -> Result<Vec<Spanned>, AllocError> {
-    let mut found = Vec::new(alloc);
-    for (i, part) in text.split(' ').enumerate() {
-        if part.is_empty() {
-            continue;
-        }
-        let place = Place {
-            file: 0,
-            line: 1,
-            col: 1,
-        };
-        found.push(Spanned {
-            token: token(alloc, part)?,
-            start: i,
-            end: i,
-            place,
-        })?;
-    }
-    Ok(found)
+/// The tokens of a text, which is no longer than a file may be.
+pub fn tokens(rt: &impl Abort, alloc: Global, text: &str) -> Result<Vec<Spanned>, Fail> {
+    let bytes = text.as_bytes();
+    assert!(rt; bytes.len() <= 1048576);
+    Ok(ms_lexer::tokens(alloc, 0, bytes)?)
 }
 
 #[test]
-fn names_the_first_wrong_token(rt: HostRuntime) -> Result<(), AllocError> {
+fn names_the_first_wrong_token(rt: HostRuntime) -> Result<(), Fail> {
     let cases = [
         ("", 0),
         ("a < b < c", 3),
@@ -162,7 +60,7 @@ fn names_the_first_wrong_token(rt: HostRuntime) -> Result<(), AllocError> {
         ("a <->", 2),
     ];
     for (case, at) in cases {
-        match statement(rt.alloc(), &tokens(rt.alloc(), case)?) {
+        match statement(rt.alloc(), &tokens(&rt, rt.alloc(), case)?) {
             Err(ParseFault::Syntax(k)) => assert_eq!(rt; k, at, "{case}"),
             _ => assert!(rt; false, "{case}"),
         }
@@ -172,12 +70,13 @@ fn names_the_first_wrong_token(rt: HostRuntime) -> Result<(), AllocError> {
 
 /// `count` times the first, then the middle, then `count` times the last.
 fn nested(
+    rt: &impl Abort,
     alloc: Global,
     first: &str,
     middle: &str,
     last: &str,
     count: usize,
-) -> Result<Vec<Spanned>, AllocError> {
+) -> Result<Vec<Spanned>, Fail> {
     let mut text = String::new(alloc);
     for _ in 0..count {
         text.push_str(first)?;
@@ -186,11 +85,11 @@ fn nested(
     for _ in 0..count {
         text.push_str(last)?;
     }
-    tokens(alloc, &text)
+    tokens(rt, alloc, &text)
 }
 
 #[test]
-fn nests_so_deep(rt: HostRuntime) -> Result<(), AllocError> {
+fn nests_so_deep(rt: HostRuntime) -> Result<(), Fail> {
     let cases = [
         ("( ", "1", " )", 200),
         ("[ ", "1", " ]", 200),
@@ -208,21 +107,21 @@ fn nests_so_deep(rt: HostRuntime) -> Result<(), AllocError> {
         ("let { int : a = ", "1", " } in 1", 1201),
     ];
     for (first, middle, last, at) in cases {
-        let deep = nested(rt.alloc(), first, middle, last, 200)?;
+        let deep = nested(&rt, rt.alloc(), first, middle, last, 200)?;
         assert!(rt; statement(rt.alloc(), &deep).is_ok(), "{first}");
-        let deeper = nested(rt.alloc(), first, middle, last, 201)?;
+        let deeper = nested(&rt, rt.alloc(), first, middle, last, 201)?;
         match statement(rt.alloc(), &deeper) {
             Err(ParseFault::Deep(k)) => assert_eq!(rt; k, at, "{first}"),
             _ => assert!(rt; false, "{first}"),
         }
     }
     // A bracket that is too deep and cannot stand there is a wrong token.
-    let wrong = nested(rt.alloc(), "( ", "1 ( 1", " )", 200)?;
+    let wrong = nested(&rt, rt.alloc(), "( ", "1 ( 1", " )", 200)?;
     match statement(rt.alloc(), &wrong) {
         Err(ParseFault::Syntax(k)) => assert_eq!(rt; k, 201),
         _ => assert!(rt; false),
     }
-    let chain = nested(rt.alloc(), "1 + ", "1", " - 1", 50000)?;
+    let chain = nested(&rt, rt.alloc(), "1 + ", "1", " - 1", 50000)?;
     assert!(rt; statement(rt.alloc(), &chain).is_ok());
     Ok(())
 }

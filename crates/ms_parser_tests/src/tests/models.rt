@@ -3,10 +3,12 @@
 use super::tokens;
 use ms_parser::{ParseFault, assignments, model};
 use ms_syntax::Spanned;
-use std::alloc::{AllocError, Global};
+use std::alloc::Global;
+use std::process::Abort;
+use std::test::Fail;
 
 #[test]
-fn reads_each_item(rt: HostRuntime) -> Result<(), AllocError> {
+fn reads_each_item(rt: HostRuntime) -> Result<(), Fail> {
     let cases = [
         ("", 0, false),
         ("include \"a\"", 1, false),
@@ -71,7 +73,7 @@ fn reads_each_item(rt: HostRuntime) -> Result<(), AllocError> {
         ),
     ];
     for (case, count, closed) in cases {
-        match model(rt.alloc(), &tokens(rt.alloc(), case)?) {
+        match model(rt.alloc(), &tokens(&rt, rt.alloc(), case)?) {
             Ok(tree) => {
                 assert_eq!(rt; tree.items.len(), count, "{case}");
                 assert_eq!(rt; tree.closed, closed, "{case}");
@@ -83,7 +85,7 @@ fn reads_each_item(rt: HostRuntime) -> Result<(), AllocError> {
 }
 
 #[test]
-fn names_the_first_wrong_token_of_a_model(rt: HostRuntime) -> Result<(), AllocError> {
+fn names_the_first_wrong_token_of_a_model(rt: HostRuntime) -> Result<(), Fail> {
     let cases = [
         ("constraint a < b < c ; solve satisfy ;", 4),
         (";", 0),
@@ -146,7 +148,7 @@ fn names_the_first_wrong_token_of_a_model(rt: HostRuntime) -> Result<(), AllocEr
         ("function int : f ( int : a ) ( b", 9),
     ];
     for (case, at) in cases {
-        match model(rt.alloc(), &tokens(rt.alloc(), case)?) {
+        match model(rt.alloc(), &tokens(&rt, rt.alloc(), case)?) {
             Err(ParseFault::Syntax(k)) => assert_eq!(rt; k, at, "{case}"),
             _ => assert!(rt; false, "{case}"),
         }
@@ -155,7 +157,7 @@ fn names_the_first_wrong_token_of_a_model(rt: HostRuntime) -> Result<(), AllocEr
 }
 
 #[test]
-fn reads_data(rt: HostRuntime) -> Result<(), AllocError> {
+fn reads_data(rt: HostRuntime) -> Result<(), Fail> {
     let cases = [
         ("", 0, false),
         ("x = 1", 1, false),
@@ -163,7 +165,7 @@ fn reads_data(rt: HostRuntime) -> Result<(), AllocError> {
         ("x = [ 1 , 2 ] ; y = { } ; z = [| 1 | 2 |]", 3, false),
     ];
     for (case, count, closed) in cases {
-        match assignments(rt.alloc(), &tokens(rt.alloc(), case)?) {
+        match assignments(rt.alloc(), &tokens(&rt, rt.alloc(), case)?) {
             Ok(data) => {
                 assert_eq!(rt; data.list.len(), count, "{case}");
                 assert_eq!(rt; data.closed, closed, "{case}");
@@ -186,7 +188,7 @@ fn reads_data(rt: HostRuntime) -> Result<(), AllocError> {
         ("x = 1 ; y", 5),
     ];
     for (case, at) in broken {
-        match assignments(rt.alloc(), &tokens(rt.alloc(), case)?) {
+        match assignments(rt.alloc(), &tokens(&rt, rt.alloc(), case)?) {
             Err(ParseFault::Syntax(k)) => assert_eq!(rt; k, at, "{case}"),
             _ => assert!(rt; false, "{case}"),
         }
@@ -196,11 +198,12 @@ fn reads_data(rt: HostRuntime) -> Result<(), AllocError> {
 
 /// A number in so many parentheses, with a text before it and one behind it.
 fn within(
+    rt: &impl Abort,
     alloc: Global,
     before: &str,
     after: &str,
     count: usize,
-) -> Result<Vec<Spanned>, AllocError> {
+) -> Result<Vec<Spanned>, Fail> {
     let mut text = String::from_str(alloc, before)?;
     for _ in 0..count {
         text.push_str(" (")?;
@@ -210,12 +213,12 @@ fn within(
         text.push_str(" )")?;
     }
     text.push_str(after)?;
-    tokens(alloc, &text)
+    tokens(rt, alloc, &text)
 }
 
 /// A text with brackets 200 deep is read, and one level more is too deep.
 #[test]
-fn items_nest_so_deep(rt: HostRuntime) -> Result<(), AllocError> {
+fn items_nest_so_deep(rt: HostRuntime) -> Result<(), Fail> {
     let cases = [
         ("constraint", "", 200, 201),
         ("enum E = { A } ; x =", "", 200, 209),
@@ -226,15 +229,15 @@ fn items_nest_so_deep(rt: HostRuntime) -> Result<(), AllocError> {
         ("constraint a :: n (", " )", 199, 204),
     ];
     for (first, last, count, at) in cases {
-        let deep = within(rt.alloc(), first, last, count)?;
+        let deep = within(&rt, rt.alloc(), first, last, count)?;
         assert!(rt; model(rt.alloc(), &deep).is_ok(), "{first}");
-        let deeper = within(rt.alloc(), first, last, count + 1)?;
+        let deeper = within(&rt, rt.alloc(), first, last, count + 1)?;
         match model(rt.alloc(), &deeper) {
             Err(ParseFault::Deep(k)) => assert_eq!(rt; k, at, "{first}"),
             _ => assert!(rt; false, "{first}"),
         }
     }
-    let data = within(rt.alloc(), "x =", "", 201)?;
+    let data = within(&rt, rt.alloc(), "x =", "", 201)?;
     match assignments(rt.alloc(), &data) {
         Err(ParseFault::Deep(k)) => assert_eq!(rt; k, 202),
         _ => assert!(rt; false),

@@ -3,7 +3,7 @@
 use super::tokens;
 use ms_parser::{chains_group, one_data, one_expression, one_model, some_answer, statement};
 use ms_syntax::{Expr, Operator};
-use std::alloc::AllocError;
+use std::test::Fail;
 
 /// The kind of node, and how many operators, subscripts, elements, rows, generators, further conditions or
 /// declarations it has.
@@ -38,12 +38,12 @@ fn shape(tree: &Expr) -> (&'static str, usize) {
 }
 
 #[test]
-fn reads_each_form(rt: HostRuntime) -> Result<(), AllocError> {
+fn reads_each_form(rt: HostRuntime) -> Result<(), Fail> {
     let cases = [
         ("1", "number", 0),
         ("a", "name", 0),
         ("true", "truth", 0),
-        ("\"a", "text", 0),
+        ("\"a\"", "text", 0),
         ("f ( )", "call", 0),
         ("f ( a , 1 )", "call", 2),
         ("f ( i , j )", "call", 2),
@@ -99,7 +99,7 @@ fn reads_each_form(rt: HostRuntime) -> Result<(), AllocError> {
         ),
     ];
     for (case, kind, parts) in cases {
-        match statement(rt.alloc(), &tokens(rt.alloc(), case)?) {
+        match statement(rt.alloc(), &tokens(&rt, rt.alloc(), case)?) {
             Ok(tree) => {
                 let (found, count) = shape(&tree);
                 assert_eq!(rt; found, kind, "{case}");
@@ -138,10 +138,10 @@ fn number(tree: &Expr) -> Option<u64> {
 }
 
 #[test]
-fn chains_keep_their_order(rt: HostRuntime) -> Result<(), AllocError> {
+fn chains_keep_their_order(rt: HostRuntime) -> Result<(), Fail> {
     let cases = [("7 - 2 - 1", 4), ("7 - 2 + 1", 6), ("1 + 2 + 3 - 4", 2)];
     for (case, sum) in cases {
-        match statement(rt.alloc(), &tokens(rt.alloc(), case)?) {
+        match statement(rt.alloc(), &tokens(&rt, rt.alloc(), case)?) {
             Ok(tree) => assert_eq!(rt; total(&tree), Some(sum), "{case}"),
             Err(_) => assert!(rt; false, "{case}"),
         }
@@ -150,7 +150,7 @@ fn chains_keep_their_order(rt: HostRuntime) -> Result<(), AllocError> {
 }
 
 #[test]
-fn laws_are_there(_rt: HostRuntime) -> Result<(), AllocError> {
+fn laws_are_there(_rt: HostRuntime) -> Result<(), Fail> {
     one_expression();
     one_model();
     one_data();
