@@ -9,7 +9,7 @@ use Rattle.ms_expressions.specs.declared.stop.Stop.TheVariants as stop
 use Rattle.ms_expressions.specs.Reading.{Parser, ◌>>=◌, finish}
 use Rattle.ms_expressions.specs.Reads.{Reads}
 use Rattle.ms_parser.specs.declared.fault.ParseFault.{ParseFault}
-use Rattle.ms_parser.specs.declared.fault.ParseFault.TheVariants.{Syntax, Deep, Memory}
+use Rattle.ms_parser.specs.declared.fault.ParseFault.TheVariants.{Syntax, Deep}
 use Rattle.ms_parser.specs.Answers.{GivesUnlessMemory, FailsUnlessMemory, IsWithin, from_front}
 use Rattle.ms_parser.proofs.Exact.{Exact, nobody}
 use Rattle.ms_parser.proofs.Law as law

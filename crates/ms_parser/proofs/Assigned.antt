@@ -1,19 +1,14 @@
 -- Data is read as the grammar writes it, and what the outcome says.
-use Rattle.std.proofs.Common.{◌≡◌, ℕ, List, [], ◌∷◌, length, None, Bool, true, false, refl, sym, subst}
-use Rattle.std.specs.Prelude.{not}
-use Rattle.ms_syntax.specs.declared.token.Token.{Token}
+use Rattle.std.proofs.Common.{◌≡◌, ℕ, List, [], ◌∷◌, length, refl}
 use Rattle.ms_syntax.specs.declared.token.Symbol.TheVariants as s
 use Rattle.ms_syntax.specs.declared.token.Place.{Place}
 use Rattle.ms_syntax.specs.Tree.{Ex, Pairs}
 use Rattle.ms_syntax.specs.Grammar.{Tokens, ◌⋅◌, mark, Writes, WritesPair, WritesPairs, IsShallow}
 use Rattle.ms_parser.specs.Answers.{HasAnswer, IsWithin, from_front}
-use Rattle.ms_syntax.specs.Token.{is_symbol}
-use Rattle.ms_expressions.specs.Kinds.{when}
 use Rattle.ms_parser.specs.Lists.{items}
 use Rattle.ms_parser.specs.Items.{assignment, assignments}
 use Rattle.ms_parser.proofs.Classes.{symbol_class}
 use Rattle.ms_parser.proofs.Exact.{Exact, nobody}
-use Rattle.ms_parser.proofs.Choices.{either}
 use Rattle.ms_parser.proofs.Parts.{Pair, both, behind}
 use Rattle.ms_parser.proofs.Enclosed.{e_any, nobody_fresh, IsName, binder_exact, built}
 use Rattle.ms_parser.proofs.Nested.{under_exact}

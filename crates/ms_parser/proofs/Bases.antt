@@ -1,10 +1,8 @@
 -- What the rules of words, index sets, bases and kinds read is what the grammar writes.
-use Rattle.std.proofs.Common.{◌≡◌, ℕ, suc, List, [], ◌∷◌, ◌++◌, Option, Some, None, Bool, true, false, refl, sym, ap, ◌∙◌, subst, append_assoc, ◌⊎◌, inl, inr}
-use Rattle.std.specs.Prelude.{◌||◌, not}
+use Rattle.std.proofs.Common.{◌≡◌, ℕ, suc, List, [], ◌∷◌, ◌++◌, Option, Some, None, Bool, false, refl, sym, ap, ◌∙◌, subst, append_assoc, ◌⊎◌, inl, inr}
 use Rattle.ms_syntax.specs.declared.token.Token.{Token}
 use Rattle.ms_syntax.specs.declared.token.Token.TheVariants as tok
 use Rattle.ms_syntax.specs.declared.token.Keyword.TheVariants as k
-use Rattle.ms_syntax.specs.declared.token.Symbol.{Symbol}
 use Rattle.ms_syntax.specs.declared.token.Symbol.TheVariants as s
 use Rattle.ms_syntax.specs.declared.token.Spanned.{Spanned}
 use Rattle.ms_syntax.specs.declared.token.Place.{Place}
@@ -16,12 +14,11 @@ use Rattle.ms_syntax.specs.Grammar.{Tokens, ◌⋅◌, the, at, WritesIndex, Wri
 use Rattle.ms_expressions.specs.declared.reach.Reach.{Reach}
 use Rattle.ms_expressions.specs.declared.reach.Reach.TheVariants as reach
 use Rattle.ms_expressions.specs.Reading.{Out, bad, deep, Parser, ◌>>=◌, ok, and_then, pick, front, after, pure, by, into, skip, closing}
-use Rattle.ms_syntax.specs.Token.{is_symbol}
-use Rattle.ms_expressions.specs.Kinds.{a_name, symbol, keyword, when}
+use Rattle.ms_expressions.specs.Kinds.{a_name, symbol, keyword}
 use Rattle.ms_expressions.specs.Rules.{a_word, index_set, index_sets}
 use Rattle.ms_parser.proofs.Classes.{name_class, symbol_class, keyword_class}
 use Rattle.ms_parser.proofs.Exact.{Exact, Seq, Just, One, nobody, append_nil, extend}
-use Rattle.ms_parser.proofs.Choices.{either, some_or}
+use Rattle.ms_parser.proofs.Choices.{either}
 use Rattle.ms_parser.proofs.Parts.{Pair, Image, Start, Has, token_at, the_has, next, mapped, retold, none_after, take, behind, start}
 use Rattle.ms_parser.proofs.Enclosed.{e_range, Fresh, nobody_fresh, IsAt}
 

@@ -1,5 +1,5 @@
 -- What a token of a kind is.
-use Rattle.std.proofs.Common.{◌≡◌, ℕ, zero, suc, List, [], ◌∷◌, Option, Some, None, Bool, true, false, refl, sym, ap, ◌∙◌}
+use Rattle.std.proofs.Common.{◌≡◌, ℕ, List, Option, Some, None, Bool, true, false, refl, sym, ap, ◌∙◌}
 use Rattle.std.specs.Prelude.{◌==◌, if◌then◌else◌}
 use Rattle.std.proofs.lemmas.Bool.{eq-eqb, eqb-true}
 use Rattle.ms_syntax.specs.declared.token.Token.{Token}
@@ -13,7 +13,10 @@ use Rattle.ms_syntax.specs.declared.tree.Operator.TheVariants as o
 use Rattle.ms_syntax.specs.declared.tree.Sign.{Sign}
 use Rattle.ms_syntax.specs.declared.tree.Sign.TheVariants as g
 use Rattle.ms_syntax.specs.Grammar.{operands, sign_of, mark_of, truth_of}
-use Rattle.ms_syntax.specs.Token.{symbol_number, keyword_number}
+use Rattle.ms_syntax.specs.Token.{same_symbol, same_keyword}
+use Rattle.ms_syntax.specs.contracts.token.Keyword as words
+use Rattle.ms_syntax.specs.contracts.token.Symbol as marks
+use denote.Enum.Bare.{same_true, true_same}
 use Rattle.ms_expressions.specs.Kinds.{a_number, a_text, a_name, a_truth, a_sign, when, symbol, keyword, operator, only, infix_of}
 
 -- f takes the tokens t
@@ -21,35 +24,8 @@ pub record Class {A : Type 0} (f : Token → Option A) (t : A → Token) : Type 
   pub is : (u : Token) (a : A) → f u ≡ Some a → u ≡ t a
   pub has : (a : A) → f (t a) ≡ Some a
 
-nth : {A : Type 0} → ℕ → List A → Option A
-nth n [] = None
-nth zero (x ∷ xs) = Some x
-nth (suc n) (x ∷ xs) = nth n xs
-
-all_symbols : List Symbol
-all_symbols = s.DoubleArrow ∷ s.RightArrow ∷ s.LeftArrow ∷ s.AtMost ∷ s.AtLeast ∷ s.Equal ∷ s.NotEqual ∷ s.Or ∷ s.And ∷ s.DotDot ∷ s.PlusPlus ∷ s.ColonColon ∷ s.OpenRows ∷ s.CloseRows ∷ s.Less ∷ s.Greater ∷ s.Plus ∷ s.Minus ∷ s.Star ∷ s.OpenParenthesis ∷ s.CloseParenthesis ∷ s.OpenBracket ∷ s.CloseBracket ∷ s.OpenBrace ∷ s.CloseBrace ∷ s.Comma ∷ s.Semicolon ∷ s.Colon ∷ s.Bar ∷ []
-
-all_keywords : List Keyword
-all_keywords = k.Ann ∷ k.Array ∷ k.Bool ∷ k.Constraint ∷ k.Div ∷ k.Else ∷ k.Elseif ∷ k.Endif ∷ k.Enum ∷ k.False ∷ k.Function ∷ k.If ∷ k.In ∷ k.Include ∷ k.Int ∷ k.Let ∷ k.Maximize ∷ k.Minimize ∷ k.Mod ∷ k.Not ∷ k.Of ∷ k.Output ∷ k.Par ∷ k.Predicate ∷ k.Satisfy ∷ k.Search ∷ k.Set ∷ k.Solve ∷ k.String ∷ k.Then ∷ k.True ∷ k.Var ∷ k.Where ∷ k.Xor ∷ []
-
-symbol_found : (x : Symbol) → nth (symbol_number x) all_symbols ≡ Some x
-unfolding nth all_symbols
-symbol_found s.DoubleArrow = refl
-symbol_found _ = refl
-
-keyword_found : (x : Keyword) → nth (keyword_number x) all_keywords ≡ Some x
-unfolding nth all_keywords
-keyword_found k.Ann = refl
-keyword_found _ = refl
-
 some_same : {A : Type 0} (a b : A) → Some a ≡ Some b → a ≡ b
 some_same a b h = cc
-
-same_symbol : (x y : Symbol) → symbol_number x ≡ symbol_number y → x ≡ y
-same_symbol x y h = some_same x y (sym (symbol_found x) ∙ ap (λ n. nth n all_symbols) h ∙ symbol_found y)
-
-same_keyword : (x y : Keyword) → keyword_number x ≡ keyword_number y → x ≡ y
-same_keyword x y h = some_same x y (sym (keyword_found x) ∙ ap (λ n. nth n all_keywords) h ∙ keyword_found y)
 
 when_is : (b : Bool) (a : Unit {0}) → when b ≡ Some a → b ≡ true
 when_is true a h = refl
@@ -60,18 +36,18 @@ when_has true a h = refl
 when_has false a h = absurd (cc)
 
 symbol_is : (x : Symbol) (u : Token) (a : Unit {0}) → symbol x u ≡ Some a → u ≡ tok.Symbol x
-symbol_is x (tok.Symbol y) a h = ap tok.Symbol (same_symbol y x (eqb-true (symbol_number y) (symbol_number x) (when_is (symbol_number y == symbol_number x) a h)))
+symbol_is x (tok.Symbol y) a h = ap tok.Symbol (same_true marks.the_type tt y x (when_is (same_symbol y x) a h))
 symbol_is x _ a h = absurd (cc)
 
 keyword_is : (x : Keyword) (u : Token) (a : Unit {0}) → keyword x u ≡ Some a → u ≡ tok.Keyword x
-keyword_is x (tok.Keyword y) a h = ap tok.Keyword (same_keyword y x (eqb-true (keyword_number y) (keyword_number x) (when_is (keyword_number y == keyword_number x) a h)))
+keyword_is x (tok.Keyword y) a h = ap tok.Keyword (same_true words.the_type tt y x (when_is (same_keyword y x) a h))
 keyword_is x _ a h = absurd (cc)
 
 pub symbol_class : (x : Symbol) → Class (symbol x) (λ a. tok.Symbol x)
-symbol_class x = record { is = symbol_is x; has = λ a. when_has (symbol_number x == symbol_number x) a (eq-eqb (symbol_number x) (symbol_number x) refl) }
+symbol_class x = record { is = symbol_is x; has = λ a. when_has (same_symbol x x) a (true_same marks.the_type x x refl) }
 
 pub keyword_class : (x : Keyword) → Class (keyword x) (λ a. tok.Keyword x)
-keyword_class x = record { is = keyword_is x; has = λ a. when_has (keyword_number x == keyword_number x) a (eq-eqb (keyword_number x) (keyword_number x) refl) }
+keyword_class x = record { is = keyword_is x; has = λ a. when_has (same_keyword x x) a (true_same words.the_type x x refl) }
 
 number_is : (u : Token) (n : ℕ) → a_number u ≡ Some n → u ≡ tok.Number n
 number_is (tok.Number m) n h = ap tok.Number (some_same m n h)

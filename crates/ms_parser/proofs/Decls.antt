@@ -19,7 +19,7 @@ use Rattle.ms_expressions.specs.Rules.{index_sets, set_base, base, marked, kind,
 use Rattle.ms_parser.proofs.Classes.{symbol_class, keyword_class}
 use Rattle.ms_parser.proofs.Exact as e
 use Rattle.ms_parser.proofs.Exact.{widen, loosen, Exact, Seq, Just, Cases, Stops, nobody, append_nil, extend, stops_nobody}
-use Rattle.ms_parser.proofs.Choices.{either, either_second, either_less, some_or}
+use Rattle.ms_parser.proofs.Choices.{either, either_second, either_less}
 use Rattle.ms_parser.proofs.Read as r
 use Rattle.ms_parser.proofs.Parts.{Pair, Image, Start, Has, token_at, some_place, the_has, has_closing, next, both, mapped, retold, none_after, behind, closed_by, start, start_open, clear_of, step_of}
 use Rattle.ms_parser.proofs.Lists.{must_open, repeat, listing, placed_exact}

@@ -1,9 +1,8 @@
 -- Parts of items, and items that begin with a range, are read as the grammar writes them.
-use Rattle.std.proofs.Common.{◌≡◌, ℕ, suc, List, [], ◌∷◌, ◌++◌, Option, Some, None, Bool, true, false, refl, sym, ap, ◌∙◌, subst, append_assoc, arith, ◌⊎◌, inl, inr}
-use Rattle.std.specs.Prelude.{◌||◌, option_and_then}
+use Rattle.std.proofs.Common.{◌≡◌, ℕ, suc, List, [], ◌∷◌, ◌++◌, Option, Some, None, Bool, false, refl, sym, ap, ◌∙◌, subst, append_assoc, arith, inl, inr}
+use Rattle.std.specs.Prelude.{option_and_then}
 use Rattle.ms_syntax.specs.declared.token.Token.{Token}
 use Rattle.ms_syntax.specs.declared.token.Token.TheVariants as tok
-use Rattle.ms_syntax.specs.declared.token.Keyword.{Keyword}
 use Rattle.ms_syntax.specs.declared.token.Keyword.TheVariants as k
 use Rattle.ms_syntax.specs.declared.token.Symbol.TheVariants as s
 use Rattle.ms_syntax.specs.declared.token.Spanned.{Spanned}
@@ -14,15 +13,13 @@ use Rattle.ms_syntax.specs.Tree.{Names, Ex, Maybe, Kd, Notes, Params, Gl, It}
 use Rattle.ms_syntax.specs.Grammar.{Tokens, ◌⋅◌, the, at, from, BeginsAt, mark_of, Writes, WritesNames, WritesNotes, WritesDecl, WritesNameList, WritesElements, WritesParam, WritesMoreParams, WritesParamList, WritesParams, WritesGoal, WritesItem, mark}
 use Rattle.ms_expressions.specs.declared.reach.Reach.TheVariants as reach
 use Rattle.ms_expressions.specs.Reading.{Out, ok, bad, deep, and_then, ◌>>=◌, pure, pair, into, placed, many, separated}
-use Rattle.ms_syntax.specs.Token.{is_symbol, is_keyword}
-use Rattle.ms_expressions.specs.Kinds.{a_text, symbol, keyword, when}
+use Rattle.ms_expressions.specs.Kinds.{a_text, symbol, keyword}
 use Rattle.ms_expressions.specs.Rules.{a_word, kind, under}
 use Rattle.ms_expressions.specs.Rules as r2
 use Rattle.ms_parser.specs.Items.{any, notes, a_string, if_name, name_list, elements, parameter, parameter_list, parameters, goal}
 use Rattle.ms_parser.proofs.Classes.{text_class, symbol_class, keyword_class}
 use Rattle.ms_parser.proofs.Exact.{extend, widen, loosen, Exact, Seq, Just, One, Cases, Many, nobody, append_nil}
 use Rattle.ms_parser.proofs.Choices.{either, either_second, either_less}
-use Rattle.ms_parser.proofs.Read as r
 use Rattle.ms_parser.proofs.Parts.{Pair, Image, Start, Has, token_at, the_has, next, both, mapped, retold, none_after, take, closed_by, start}
 use Rattle.ms_parser.proofs.Lists.{must_open, repeat, placed_exact}
 use Rattle.ms_parser.proofs.Enclosed.{e_atom, atom_in_tier, comma, e_any, e_range, Fresh, nobody_fresh, symbol_fresh, IsAt, names_exact, built}

@@ -1,12 +1,12 @@
 -- What the outcome of a reader of all tokens says of the language that it reads.
-use Rattle.std.proofs.Common.{◌≡◌, ℕ, suc, ◌+◌, ◌-◌, ◌≤◌, [], ◌∷◌, ◌++◌, length, Option, Some, None, Bool, true, false, refl, sym, ap, ◌∙◌, subst, append_assoc, length-append, arith, ◌⊎◌, inl, inr}
+use Rattle.std.proofs.Common.{◌≡◌, ℕ, suc, ◌+◌, ◌-◌, ◌≤◌, [], ◌∷◌, ◌++◌, length, Option, Some, None, Bool, true, refl, sym, ap, ◌∙◌, subst, append_assoc, length-append, arith, ◌⊎◌, inl, inr}
 use Rattle.std.specs.Prelude.{option_and_then, IsSome, if◌then◌else◌}
 use Rattle.ms_syntax.specs.declared.token.Token.{Token}
 use Rattle.ms_syntax.specs.declared.token.Spanned.{Spanned}
 use Rattle.ms_syntax.specs.Grammar.{Tokens, left, opens, closes, IsShallow, Begins, CannotGoOn, SyntaxAt, DeepAt}
 use Rattle.ms_parser.specs.Answers.{HasAnswer}
 use Rattle.ms_expressions.specs.Reading.{Out, ok, bad, deep, Parser, and_then, ◌>>=◌, finish}
-use Rattle.ms_parser.proofs.Exact.{nobody, Exact, IsThere, IsDeep, stops_nobody, append_nil, left_from}
+use Rattle.ms_parser.proofs.Exact.{nobody, Exact, IsThere, IsDeep, append_nil, left_from}
 
 some_there : (o : Option ℕ) → IsThere o → IsSome o
 some_there None h = absurd h

@@ -28,7 +28,7 @@ use Rattle.ms_parser.proofs.Read as r
 use Rattle.ms_parser.proofs.Parts.{Pair, Image, Start, Has, token_at, the_has, has_pair, next, both, mapped, retold, none_after, start, start_open}
 use Rattle.ms_parser.proofs.Lists.{must_open, repeat_open, listing, placeless, placing, placed_exact}
 use Rattle.ms_parser.proofs.Enclosed.{e_atom, e_access, e_tier, e_any, e_range, Fresh, nobody_fresh, IsAt, IsClosed, IsListed, IsIf, if_of, IsSubscript, RawArray, RawRows, has_if, has_paren, has_array, has_rows, has_set, has_zero, if_exact, paren_exact, array_exact, rows_exact, set_exact, subscript_exact, array_to, array_from, comprehension_from, rows_to, rows_from}
-use Rattle.ms_parser.proofs.Calls.{lparen, Behind, RawArguments, has_arguments, arguments_exact, named_to, call_from, generator_call_from}
+use Rattle.ms_parser.proofs.Calls.{Behind, RawArguments, has_arguments, arguments_exact, named_to, call_from, generator_call_from}
 
 -- ---- atoms
 

@@ -1,4 +1,5 @@
--- What a call answers where one value is written so, or one fault stands; and that tokens have an answer.
+-- What a call answers where one value is written so, or one fault stands; and that tokens have an
+-- answer.
 use Rattle.std.specs.Prelude.{◌≡◌, ◌≤◌, ◌<◌, ◌-◌, ◌⊎◌, ℕ, Result, Ok, Err}
 use Rattle.ms_syntax.specs.Grammar.{Tokens, IsShallow, SyntaxAt, DeepAt}
 use Rattle.ms_expressions.specs.declared.stop.Stop.{Stop}
@@ -18,10 +19,13 @@ FailsUnlessMemory fault (Err Memory) = Unit {0}
 FailsUnlessMemory fault (Err (Syntax k)) = fault ≡ Syntax k
 FailsUnlessMemory fault (Err (Deep k)) = fault ≡ Deep k
 
--- a value is written as the tokens and they are shallow, or a token is the first that cannot stand there, or the
--- first that nests too deep
+-- a value is written as the tokens and they are shallow, or a token is the first that cannot stand
+-- there, or the first that nests too deep
 abbrev pub HasAnswer : {A : Type 0} → (A → Tokens → Type 0) → Tokens → Type 0
-HasAnswer {A} writes ts = ((x : A) × writes x ts × IsShallow ts) ⊎ ((k : ℕ) × SyntaxAt writes ts k) ⊎ ((k : ℕ) × DeepAt writes ts k)
+HasAnswer {A} writes ts =
+    ((x : A) × writes x ts × IsShallow ts)
+    ⊎ ((k : ℕ) × SyntaxAt writes ts k)
+    ⊎ ((k : ℕ) × DeepAt writes ts k)
 
 -- of n tokens, a fault told by how many are left tells of one of them, or of their end
 abbrev pub IsWithin : {X : Type 0} → ℕ → Result X Stop → Type 0

@@ -7,7 +7,8 @@ use crate::fault::ParseFault;
 use ms_expressions::Stop;
 use ms_syntax::Spanned;
 
-/// What was read of all tokens, with a fault that is told by how many tokens are left told by its place.
+/// What was read of all tokens, with a fault that is told by how many tokens are left told by its
+/// place.
 pub fn answer<T: Drop>(tokens: &[Spanned], read: Result<T, Stop>) -> Result<T, ParseFault>
     requires { IsWithin (length tokens.now) read }
     ensures { result ≡ from_front (length tokens.now) read }

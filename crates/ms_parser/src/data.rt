@@ -46,16 +46,23 @@ fn whole_data(alloc: Global, tokens: &[Spanned]) -> Result<Assignments, Stop>
     Ok(Assignments { list, closed })
 }
 
-/// The one list of assignments that the grammar writes as the tokens of data, with brackets and `if` nested at
-/// most `MAX_NESTING` deep. `Syntax(k)`: the token at `k` is the first with which no data goes on, or `k` is the
-/// number of tokens and they are no whole data. `Deep(k)`: the token at `k` is the first that nests too deep.
+/// The one list of assignments that the grammar writes as the tokens of data, with brackets and
+/// `if` nested at most `MAX_NESTING` deep. `Syntax(k)`: the token at `k` is the first with which no
+/// data goes on, or `k` is the number of tokens and they are no whole data. `Deep(k)`: the token at
+/// `k` is the first that nests too deep.
 pub fn assignments(alloc: Global, tokens: &[Spanned]) -> Result<Assignments, ParseFault>
-    ensures found { IfOk result (λ d. WritesPairs (assignments_view d) tokens.now × IsShallow tokens.now) }
-    ensures only { (x : Pairs) → WritesPairs x tokens.now → IsShallow tokens.now → GivesUnlessMemory assignments_view x result }
-    ensures syntax { (k : ℕ) → result ≡ Err (ParseFault.Syntax k) → SyntaxAt WritesPairs tokens.now k }
-    ensures syntax_given { (k : ℕ) → SyntaxAt WritesPairs tokens.now k → FailsUnlessMemory (ParseFault.Syntax k) result }
+    ensures found { IfOk result (λ d. WritesPairs (assignments_view d) tokens.now
+        × IsShallow tokens.now) }
+    ensures only { (x : Pairs) → WritesPairs x tokens.now → IsShallow tokens.now
+        → GivesUnlessMemory assignments_view x result }
+
+    ensures syntax { (k : ℕ) → result ≡ Err (ParseFault.Syntax k)
+        → SyntaxAt WritesPairs tokens.now k }
+    ensures syntax_given { (k : ℕ) → SyntaxAt WritesPairs tokens.now k
+        → FailsUnlessMemory (ParseFault.Syntax k) result }
     ensures deep { (k : ℕ) → result ≡ Err (ParseFault.Deep k) → DeepAt WritesPairs tokens.now k }
-    ensures deep_given { (k : ℕ) → DeepAt WritesPairs tokens.now k → FailsUnlessMemory (ParseFault.Deep k) result }
+    ensures deep_given { (k : ℕ) → DeepAt WritesPairs tokens.now k
+        → FailsUnlessMemory (ParseFault.Deep k) result }
 {
     answer(tokens, whole_data(alloc, tokens))
 }

@@ -26,15 +26,20 @@ fn whole_statement(alloc: Global, tokens: &[Spanned]) -> Result<Expr, Stop>
 }
 
 /// The one expression that the grammar writes as the tokens, with brackets and `if` nested at most
-/// `MAX_NESTING` deep. `Syntax(k)`: the token at `k` is the first with which no expression goes on, or `k` is
-/// the number of tokens and they are no whole one. `Deep(k)`: the token at `k` is the first that nests too deep.
+/// `MAX_NESTING` deep. `Syntax(k)`: the token at `k` is the first with which no expression goes on,
+/// or `k` is the number of tokens and they are no whole one. `Deep(k)`: the token at `k` is the
+/// first that nests too deep.
 pub fn statement(alloc: Global, tokens: &[Spanned]) -> Result<Expr, ParseFault>
     ensures found { IfOk result (λ e. Writes (ex_view e) tokens.now × IsShallow tokens.now) }
-    ensures only { (x : Ex) → Writes x tokens.now → IsShallow tokens.now → GivesUnlessMemory ex_view x result }
+    ensures only { (x : Ex) → Writes x tokens.now → IsShallow tokens.now
+        → GivesUnlessMemory ex_view x result }
+
     ensures syntax { (k : ℕ) → result ≡ Err (ParseFault.Syntax k) → SyntaxAt Writes tokens.now k }
-    ensures syntax_given { (k : ℕ) → SyntaxAt Writes tokens.now k → FailsUnlessMemory (ParseFault.Syntax k) result }
+    ensures syntax_given { (k : ℕ) → SyntaxAt Writes tokens.now k
+        → FailsUnlessMemory (ParseFault.Syntax k) result }
     ensures deep { (k : ℕ) → result ≡ Err (ParseFault.Deep k) → DeepAt Writes tokens.now k }
-    ensures deep_given { (k : ℕ) → DeepAt Writes tokens.now k → FailsUnlessMemory (ParseFault.Deep k) result }
+    ensures deep_given { (k : ℕ) → DeepAt Writes tokens.now k
+        → FailsUnlessMemory (ParseFault.Deep k) result }
 {
     answer(tokens, whole_statement(alloc, tokens))
 }

@@ -36,7 +36,8 @@ fn name_list(alloc: Global, tokens: &mut Cursor<'_>) -> Result<Vec<Binder>, Stop
 /// The names of an enumeration, if they are given.
 #[tactic(auto, unfolding(crate::specs::Items::elements))]
 fn elements(alloc: Global, tokens: &mut Cursor<'_>) -> Result<Option<Vec<Binder>>, Stop>
-    ensures { Reads (option_map (λ v. names_view v.items)) (rules.elements tokens.old) result tokens.new }
+    ensures { Reads (option_map (λ v. names_view v.items)) (rules.elements tokens.old) result
+        tokens.new }
 {
     if !tokens.takes(Symbol::Equal) {
         return Ok(None);
@@ -127,15 +128,16 @@ fn of_values(alloc: Global, tokens: &mut Cursor<'_>, place: Place, set: Expr) ->
     Ok(Item::Declare(declared(alloc, tokens, place, kind)?))
 }
 
-/// What stands behind the range that the item begins with: a name that is assigned a value, or the values of a
-/// declaration.
+/// What stands behind the range that the item begins with: a name that is assigned a value, or the
+/// values of a declaration.
 fn behind_range(
     alloc: Global,
     tokens: &mut Cursor<'_>,
     place: Place,
     first: Expr,
 ) -> Result<Item, Stop>
-    ensures { Reads item_view (rules.behind_range place (ex_view first) tokens.old) result tokens.new }
+    ensures { Reads item_view (rules.behind_range place (ex_view first) tokens.old) result
+        tokens.new }
 {
     match &first {
         Expr::Name(_, name) => {

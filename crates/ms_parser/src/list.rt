@@ -12,13 +12,16 @@ use std::alloc::Global;
 pub trait Entry: Drop {
     ghost use Rattle.ms_expressions.specs.Reading.{Parser};
 
+    /// What stands for one of them.
     ghost Seen: { Type 0 };
 
+    /// What stands for this one.
     ghost view: { Self → Seen };
 
+    /// What is read as one.
     ghost rule: { Parser Seen };
 
-    /// One of them.
+    /// Reads one. After a fault the tokens that are left are of no use.
     fn read(alloc: Global, tokens: &mut Cursor<'_>) -> Result<Self, Stop>
         ensures { Reads view (rule tokens.old) result tokens.new };
 }
@@ -40,7 +43,8 @@ fn turn<T: Entry>(alloc: Global, tokens: &mut Cursor<'_>) -> Result<Turn<T>, Sto
 
 /// All of them, and whether a last semicolon is there.
 pub fn list<T: Entry>(alloc: Global, tokens: &mut Cursor<'_>) -> Result<(Vec<T>, bool), Stop>
-    ensures { Reads (λ r. (map T.view r.0.items, r.1)) (rules.items T.rule tokens.old) result tokens.new }
+    ensures { Reads (λ r. (map T.view r.0.items, r.1)) (rules.items T.rule tokens.old) result
+        tokens.new }
 {
     let mut found = Vec::new(alloc);
     if tokens.is_empty() {

@@ -40,16 +40,22 @@ fn whole_model(alloc: Global, tokens: &[Spanned]) -> Result<Tree, Stop>
     Ok(Tree { items, closed })
 }
 
-/// The one tree that the grammar writes as the tokens of a model, with brackets and `if` nested at most
-/// `MAX_NESTING` deep. `Syntax(k)`: the token at `k` is the first with which no model goes on, or `k` is the
-/// number of tokens and they are no whole one. `Deep(k)`: the token at `k` is the first that nests too deep.
+/// The one tree that the grammar writes as the tokens of a model, with brackets and `if` nested at
+/// most `MAX_NESTING` deep. `Syntax(k)`: the token at `k` is the first with which no model goes on,
+/// or `k` is the number of tokens and they are no whole one. `Deep(k)`: the token at `k` is the
+/// first that nests too deep.
 pub fn model(alloc: Global, tokens: &[Spanned]) -> Result<Tree, ParseFault>
     ensures found { IfOk result (λ t. WritesTree (tree_view t) tokens.now × IsShallow tokens.now) }
-    ensures only { (x : Items) → WritesTree x tokens.now → IsShallow tokens.now → GivesUnlessMemory tree_view x result }
-    ensures syntax { (k : ℕ) → result ≡ Err (ParseFault.Syntax k) → SyntaxAt WritesTree tokens.now k }
-    ensures syntax_given { (k : ℕ) → SyntaxAt WritesTree tokens.now k → FailsUnlessMemory (ParseFault.Syntax k) result }
+    ensures only { (x : Items) → WritesTree x tokens.now → IsShallow tokens.now
+        → GivesUnlessMemory tree_view x result }
+
+    ensures syntax { (k : ℕ) → result ≡ Err (ParseFault.Syntax k)
+        → SyntaxAt WritesTree tokens.now k }
+    ensures syntax_given { (k : ℕ) → SyntaxAt WritesTree tokens.now k
+        → FailsUnlessMemory (ParseFault.Syntax k) result }
     ensures deep { (k : ℕ) → result ≡ Err (ParseFault.Deep k) → DeepAt WritesTree tokens.now k }
-    ensures deep_given { (k : ℕ) → DeepAt WritesTree tokens.now k → FailsUnlessMemory (ParseFault.Deep k) result }
+    ensures deep_given { (k : ℕ) → DeepAt WritesTree tokens.now k
+        → FailsUnlessMemory (ParseFault.Deep k) result }
 {
     answer(tokens, whole_model(alloc, tokens))
 }

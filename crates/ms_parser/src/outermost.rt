@@ -1,7 +1,8 @@
 //! What items are made of, where no bracket is open.
 
 ghost use Rattle.std.specs.Prelude.{◌≡◌};
-ghost use Rattle.ms_syntax.specs.Tree.{ex_view, kind_view, names_view, notes_view, declaration_view};
+ghost use Rattle.ms_syntax.specs.Tree.{ex_view, kind_view, names_view, notes_view};
+ghost use Rattle.ms_syntax.specs.Tree.{declaration_view};
 ghost use Rattle.ms_expressions.specs.Reads.{Reads};
 ghost use Rattle.ms_expressions.specs.Rules.{under};
 ghost use Rattle.ms_expressions.specs.Rules as spec;
@@ -85,7 +86,8 @@ pub fn declared(
     place: Place,
     kind: Kind,
 ) -> Result<Declaration, Stop>
-    ensures { Reads declaration_view (rules.declared_as place (kind_view kind) tokens.old) result tokens.new }
+    ensures { Reads declaration_view (rules.declared_as place (kind_view kind) tokens.old) result
+        tokens.new }
 {
     let depth = MAX_NESTING;
     Grammar {

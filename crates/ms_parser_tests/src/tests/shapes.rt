@@ -5,8 +5,8 @@ use ms_parser::{chains_group, one_data, one_expression, one_model, some_answer, 
 use ms_syntax::{Expr, Operator};
 use std::test::Fail;
 
-/// The kind of node, and how many operators, subscripts, elements, rows, generators, further conditions or
-/// declarations it has.
+/// The kind of node, and how many operators, subscripts, elements, rows, generators, further
+/// conditions or declarations it has.
 fn shape(tree: &Expr) -> (&'static str, usize) {
     match tree {
         Expr::Let(_, declarations, _, _) => ("let", declarations.len()),
