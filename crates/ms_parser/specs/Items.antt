@@ -1,4 +1,5 @@
--- The rules of items, of data and of all of the tokens, each as what it reads. No bracket is open here: 200 may open.
+-- The rules of items, of data and of all of the tokens, each as what it reads. No bracket is open
+-- here: 200 may open.
 use Rattle.std.specs.Prelude.{ℕ, List, [], Option, Some, None, option_and_then, Bool}
 use Rattle.ms_syntax.specs.declared.token.Token.{Token}
 use Rattle.ms_syntax.specs.declared.token.Keyword.TheVariants as k
@@ -8,7 +9,8 @@ use Rattle.ms_syntax.specs.declared.tree.Mode.TheVariants as m
 use Rattle.ms_syntax.specs.Tree as x
 use Rattle.ms_syntax.specs.Tree.{Names, Ex, Maybe, Decl, Kd, Notes, Params, Gl, It}
 use Rattle.ms_expressions.specs.declared.reach.Reach.TheVariants as reach
-use Rattle.ms_expressions.specs.Reading.{Parser, pick, front, ◌>>=◌, pure, by, must, separated, placed, pair, into, skip, closing, enter, finish}
+use Rattle.ms_expressions.specs.Reading.{Parser, pick, front, ◌>>=◌, pure, by, must, separated, placed, pair}
+use Rattle.ms_expressions.specs.Reading.{into, skip, closing, enter, finish}
 use Rattle.ms_expressions.specs.Kinds.{a_text, symbol, keyword, kind_word}
 use Rattle.ms_expressions.specs.Rules.{under, a_word, a_binder, names}
 use Rattle.ms_expressions.specs.Rules as r
@@ -52,7 +54,8 @@ unfoldable pub name_list : Parser Names
 name_list = by (symbol s.CloseBrace) (λ a y. pure []) (closing (symbol s.CloseBrace) names)
 
 unfoldable pub elements : Parser (Option Names)
-elements = by (symbol s.Equal) (λ a y. into Some (enter 200 (symbol s.OpenBrace) >>= λ c. name_list)) (pure None)
+elements =
+    by (symbol s.Equal) (λ a y. into Some (enter 200 (symbol s.OpenBrace) >>= λ c. name_list)) (pure None)
 
 unfoldable pub parameter_list : Parser Params
 parameter_list =
@@ -94,7 +97,8 @@ abbrev pub predicate : Place → Parser It
 predicate p = into (λ c. x.predicate p c.0 c.1.0 c.1.1) (pair a_word (pair parameters body))
 
 abbrev pub function : Place → Parser It
-function p = into (λ c. x.function p c.0 c.1.0 c.1.1.0 c.1.1.1) (pair kind (pair a_word (pair parameters body)))
+function p =
+    into (λ c. x.function p c.0 c.1.0 c.1.1.0 c.1.1.1) (pair kind (pair a_word (pair parameters body)))
 
 -- ---- items that begin with a range
 
@@ -107,11 +111,13 @@ if_name _ f t = None
 abbrev pub of_values : Place → Ex → Parser It
 of_values p e =
     skip (symbol s.Colon)
-    (into (λ c. x.declaration (x.declare p (x.kind x.no_indices m.Unmarked (x.of_values e)) c.0 c.1.0 c.1.1)) declared)
+    (into (λ c. x.declaration (x.declare p (x.kind x.no_indices m.Unmarked (x.of_values e)) c.0 c.1.0 c.1.1))
+        declared)
 
 -- a name that is assigned a value, or such a declaration
 abbrev pub behind_range : Place → Ex → Parser It
-behind_range p e = by (if_name e (symbol s.Equal)) (λ w y. into (x.assignment p w) any) (of_values p e)
+behind_range p e =
+    by (if_name e (symbol s.Equal)) (λ w y. into (x.assignment p w) any) (of_values p e)
 
 unfoldable pub of_range : Parser It
 of_range = placed range >>= λ r. behind_range r.0 r.1

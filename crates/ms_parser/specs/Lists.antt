@@ -19,14 +19,17 @@ unfoldable pub more_items : {A : Type 0} → Parser A → ℕ → Parser (List A
 more_items {A} one zero = sealed {B = List A × Bool} any_token ([], false)
 more_items {A} one (suc n) =
     by (symbol s.Semicolon)
-    (λ a y. or_end {A = List A × Bool} ([], true) (one >>= λ x. into {B = List A × Bool} (λ r. (x ∷ r.0, r.1)) (more_items one n)))
+    (λ a y. or_end {A = List A × Bool} ([], true)
+        (one >>= λ x. into {B = List A × Bool} (λ r. (x ∷ r.0, r.1)) (more_items one n)))
     (sealed {B = List A × Bool} any_token ([], false))
 
 unfoldable pub items : {A : Type 0} → Parser A → Parser (List A × Bool)
 items {A} one =
     or_end {A = List A × Bool} ([], false)
-    (one >>= λ x. into {B = List A × Bool} (λ r. (x ∷ r.0, r.1)) (λ ts. more_items one (length ts) ts))
+    (one >>= λ x. into {B = List A × Bool} (λ r. (x ∷ r.0, r.1))
+        (λ ts. more_items one (length ts) ts))
 
 -- one turn of it
 unfoldable pub item_turn : {A : Type 0} → Parser A → Parser (Turn A)
-item_turn one = by (symbol s.Semicolon) (λ a y. or_end (last true) (into item one)) (sealed any_token (last false))
+item_turn one =
+    by (symbol s.Semicolon) (λ a y. or_end (last true) (into item one)) (sealed any_token (last false))
