@@ -9,8 +9,8 @@ use Rattle.ms_syntax.specs.declared.tree.Mode.TheVariants as m
 use Rattle.ms_syntax.specs.Tree as x
 use Rattle.ms_syntax.specs.Tree.{Names, Ex, Maybe, Decl, Kd, Notes, Params, Gl, It}
 use Rattle.ms_expressions.specs.declared.reach.Reach.TheVariants as reach
-use Rattle.ms_expressions.specs.Reading.{Parser, pick, front, ◌>>=◌, pure, by, must, separated, placed, pair}
-use Rattle.ms_expressions.specs.Reading.{into, skip, closing, enter, finish}
+use Rattle.ms_expressions.specs.Reading.{Parser, pick, front, ◌>>=◌, pure, by, must, separated}
+use Rattle.ms_expressions.specs.Reading.{placed, pair, into, skip, closing, enter, finish}
 use Rattle.ms_expressions.specs.Kinds.{a_text, symbol, keyword, kind_word}
 use Rattle.ms_expressions.specs.Rules.{under, a_word, a_binder, names}
 use Rattle.ms_expressions.specs.Rules as r
@@ -55,7 +55,8 @@ name_list = by (symbol s.CloseBrace) (λ a y. pure []) (closing (symbol s.CloseB
 
 unfoldable pub elements : Parser (Option Names)
 elements =
-    by (symbol s.Equal) (λ a y. into Some (enter 200 (symbol s.OpenBrace) >>= λ c. name_list)) (pure None)
+    by (symbol s.Equal) (λ a y. into Some (enter 200 (symbol s.OpenBrace) >>= λ c. name_list))
+    (pure None)
 
 unfoldable pub parameter_list : Parser Params
 parameter_list =
@@ -98,7 +99,8 @@ predicate p = into (λ c. x.predicate p c.0 c.1.0 c.1.1) (pair a_word (pair para
 
 abbrev pub function : Place → Parser It
 function p =
-    into (λ c. x.function p c.0 c.1.0 c.1.1.0 c.1.1.1) (pair kind (pair a_word (pair parameters body)))
+    into (λ c. x.function p c.0 c.1.0 c.1.1.0 c.1.1.1)
+    (pair kind (pair a_word (pair parameters body)))
 
 -- ---- items that begin with a range
 
@@ -111,8 +113,8 @@ if_name _ f t = None
 abbrev pub of_values : Place → Ex → Parser It
 of_values p e =
     skip (symbol s.Colon)
-    (into (λ c. x.declaration (x.declare p (x.kind x.no_indices m.Unmarked (x.of_values e)) c.0 c.1.0 c.1.1))
-        declared)
+    (into (λ c. x.declaration (x.declare p (x.kind x.no_indices m.Unmarked (x.of_values e))
+    c.0 c.1.0 c.1.1)) declared)
 
 -- a name that is assigned a value, or such a declaration
 abbrev pub behind_range : Place → Ex → Parser It

@@ -20,16 +20,17 @@ more_items {A} one zero = sealed {B = List A × Bool} any_token ([], false)
 more_items {A} one (suc n) =
     by (symbol s.Semicolon)
     (λ a y. or_end {A = List A × Bool} ([], true)
-        (one >>= λ x. into {B = List A × Bool} (λ r. (x ∷ r.0, r.1)) (more_items one n)))
+    (one >>= λ x. into {B = List A × Bool} (λ r. (x ∷ r.0, r.1)) (more_items one n)))
     (sealed {B = List A × Bool} any_token ([], false))
 
 unfoldable pub items : {A : Type 0} → Parser A → Parser (List A × Bool)
 items {A} one =
     or_end {A = List A × Bool} ([], false)
     (one >>= λ x. into {B = List A × Bool} (λ r. (x ∷ r.0, r.1))
-        (λ ts. more_items one (length ts) ts))
+    (λ ts. more_items one (length ts) ts))
 
 -- one turn of it
 unfoldable pub item_turn : {A : Type 0} → Parser A → Parser (Turn A)
 item_turn one =
-    by (symbol s.Semicolon) (λ a y. or_end (last true) (into item one)) (sealed any_token (last false))
+    by (symbol s.Semicolon) (λ a y. or_end (last true) (into item one))
+    (sealed any_token (last false))

@@ -1,5 +1,6 @@
 //! What the grammar says of all tokens: where they nest no deeper than they may they are written,
-//! with their places, by one tree at most, and each list of them is written so or has a first fault.
+//! with their places, by one tree at most, and each list of them is written so or has a first
+//! fault.
 
 ghost use Rattle.std.specs.Prelude.{◌≡◌, ◌==◌, ◌≤◌, ℕ, false};
 ghost use Rattle.ms_syntax.specs.declared.token.Place.{Place};

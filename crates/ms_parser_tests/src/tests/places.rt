@@ -82,9 +82,24 @@ fn generators_stand_at_their_first_name(rt: HostRuntime) -> Result<(), Fail> {
 
 #[test]
 fn items_stand_at_their_first_token(rt: HostRuntime) -> Result<(), Fail> {
-    let text =
-        "include \"a\";\n enum E = {A};\n  1..2: x;\n   var int: y :: n = 1;\ny = 2;\n constraint x < y;\n  solve :: n satisfy;\n   output [x];\npredicate p(int: a) = a > 1;\n function int: f() = 1";
-    match model(rt.alloc(), &tokens(&rt, rt.alloc(), text)?) {
+    let lines = [
+        "include \"a\";",
+        " enum E = {A};",
+        "  1..2: x;",
+        "   var int: y :: n = 1;",
+        "y = 2;",
+        " constraint x < y;",
+        "  solve :: n satisfy;",
+        "   output [x];",
+        "predicate p(int: a) = a > 1;",
+        " function int: f() = 1",
+    ];
+    let mut text = String::new(rt.alloc());
+    for line in lines {
+        text.push_str(line)?;
+        text.push_str("\n")?;
+    }
+    match model(rt.alloc(), &tokens(&rt, rt.alloc(), &text)?) {
         Ok(tree) => {
             assert_eq!(rt; tree.items.len(), 10);
             for (k, item) in tree.items.iter().enumerate() {
