@@ -2,8 +2,12 @@
 //!
 //! It hands its words, the files of the system, standard output and standard error to the top call, and ends
 //! with the number of the status: 0 done, 1 refused, 2 wrong words, 3 a file could not be read, 4 the output
-//! could not be written, 5 no memory. Nothing is promised here beyond what the top call promises.
+//! could not be written, 5 no memory. Beyond what the top call promises, that number is a contract here (`ended`).
 #![tactic(auto)]
+
+ghost use Rattle.std.specs.Prelude.{◌≡◌};
+ghost use Rattle.std.specs.Process.{exit_status};
+ghost use Rattle.ms_top.specs.Exit.{exit_code};
 
 use ms_io::{OsFiles, Sink, StdSink};
 use ms_top::{Status, run};
@@ -21,6 +25,13 @@ fn program_words(rt: &HostRuntime) -> Result<Vec<String>, AllocError> {
     }
 }
 
+/// What the process ends with.
+fn ended(status: &Status) -> ExitCode
+    ensures { exit_status result ≡ exit_code status.now }
+{
+    ExitCode::from(status.code())
+}
+
 fn main(rt: HostRuntime) -> ExitCode {
     let alloc = rt.alloc();
     let mut files = OsFiles::new(alloc, &rt);
@@ -33,5 +44,5 @@ fn main(rt: HostRuntime) -> ExitCode {
             Status::NoMemory
         }
     };
-    ExitCode::from(status.code())
+    ended(&status)
 }

@@ -1,5 +1,5 @@
 -- What a store of files tells, and how an answer of a read changes its counts.
-use Rattle.std.specs.Prelude.{◌≡◌, ℕ, ◌+◌, ◌-◌, ◌^◌, ◌<◌, min, max, ◌⊎◌, List, [], ◌∷◌, ◌++◌, length, Option, None, Some, Result, Ok, Err}
+use Rattle.std.specs.Prelude.{◌≡◌, ℕ, ◌+◌, ◌-◌, ◌^◌, ◌<◌, ◌≤◌, min, max, ◌⊎◌, List, [], ◌∷◌, ◌++◌, length, Option, None, Some, Result, Ok, Err}
 use Rattle.std.specs.Ordering.{nat_cmp}
 use Rattle.std.specs.Cmp.Lexicographic.{slice_cmp}
 use Rattle.std.specs.FinMap as map
@@ -43,3 +43,7 @@ OnLongFile (Ok bytes) p = Unit {0}
 OnLongFile (Err Failed) p = Unit {0}
 OnLongFile (Err LongFile) p = p
 OnLongFile (Err Memory) p = Unit {0}
+
+-- the count rose in this call; one that stands at 2^64 - 1 counts as risen
+abbrev pub Rose : ℕ → ℕ → Type 0
+Rose old new = min (old + 1) (2 ^ 64 - 1) ≤ new

@@ -10,6 +10,7 @@ mod files;
 mod mem_files;
 mod mem_sink;
 mod os_files;
+mod report;
 mod sink;
 mod std_sink;
 
@@ -17,5 +18,6 @@ pub use files::{FileFault, Files};
 pub use mem_files::MemFiles;
 pub use mem_sink::MemSink;
 pub use os_files::OsFiles;
+pub use report::put_report;
 pub use sink::{Failed, Sink};
 pub use std_sink::StdSink;

@@ -12,7 +12,7 @@ use Rattle.ms_top.specs.declared.form.Unread.TheVariants.{NotPlain, Memory}
 use Rattle.ms_top.specs.declared.plain.Comparison.{Comparison}
 use Rattle.ms_top.specs.declared.plain.PlainDeclaration.{PlainDeclaration}
 use Rattle.ms_top.specs.Plain.{before, behind, beside, all_of, comparison_of, constraints_of, is_end, is_satisfy}
-use Rattle.ms_top.specs.Reads.{Fails}
+use Rattle.ms_top.specs.Reading.{Fails}
 
 -- what was found, before what is found of the others
 abbrev pub grown : {A : Type 0} → List A → Option (List A) → Option (List A)

@@ -1,9 +1,9 @@
 pub mod Absent
+pub mod Ending
 pub mod Enumerating
 pub mod Fitting
 pub mod Gathering
-pub mod OneAnswer
+pub mod Outcome
 pub mod Refusing
-pub mod Reporting
 pub mod TextLemmas
 pub mod TokenPlaces

@@ -1,8 +1,11 @@
 pub mod Answer
 pub mod Exit
+pub mod Faults
+pub mod Places
 pub mod Plain
-pub mod Reads
+pub mod Reading
 pub mod Refusal
 pub mod Search
 pub mod Solution
 pub mod Text
+pub mod Words

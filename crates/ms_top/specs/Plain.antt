@@ -98,13 +98,13 @@ abbrev pub has_no_indices : Indices → Bool
 has_no_indices x.no_indices = true
 has_no_indices (x.index i more) = false
 
-abbrev pub values_of : Mode → Bs → Option (Number × Number)
-values_of mode.Var (x.of_values e) = range_of e
-values_of _ _ = None
+abbrev pub range_of_base : Mode → Bs → Option (Number × Number)
+range_of_base mode.Var (x.of_values e) = range_of e
+range_of_base _ _ = None
 
 -- var LOWEST .. HIGHEST
-abbrev pub domain_of : Kd → Option (Number × Number)
-domain_of (x.kind indices m base) = if has_no_indices indices then values_of m base else None
+abbrev pub range_of_kind : Kd → Option (Number × Number)
+range_of_kind (x.kind indices m base) = if has_no_indices indices then range_of_base m base else None
 
 abbrev pub is_absent : Maybe → Bool
 is_absent x.absent = true
@@ -120,7 +120,7 @@ is_bare (x.declare p kd w notes value) = has_no_notes notes && is_absent value
 
 -- var LOWEST .. HIGHEST : NAME
 abbrev pub declaration_of : Decl → Option PlainDeclaration
-declaration_of (x.declare p kd w notes value) = if is_bare (x.declare p kd w notes value) then declared_as w (domain_of kd) else None
+declaration_of (x.declare p kd w notes value) = if is_bare (x.declare p kd w notes value) then declared_as w (range_of_kind kd) else None
 
 abbrev pub asks_to_satisfy : Gl → Bool
 asks_to_satisfy (x.satisfy p) = true

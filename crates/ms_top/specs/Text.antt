@@ -1,5 +1,5 @@
 -- What the program writes.
-use Rattle.std.specs.Prelude.{ℕ, List, [], ◌∷◌, ◌++◌, ℤ, codes}
+use Rattle.std.specs.Prelude.{ℕ, List, [], ◌∷◌, ◌++◌, ℤ, codes, ◌==◌, if◌then◌else◌}
 use Rattle.std.specs.Fmt.{decimal, signed_decimal}
 use Rattle.ms_top.specs.declared.plain.PlainDeclaration.{PlainDeclaration}
 use Rattle.ms_top.specs.declared.plain.PlainModel.{PlainModel}
@@ -40,23 +40,31 @@ fault_words OpenText = codes "text is not closed"
 fault_words OpenComment = codes "comment is not closed"
 fault_words BigNumber = codes "number too large"
 
--- FILE:LINE:COLUMN
-abbrev pub place_text : List ℕ → Place → List ℕ
-place_text file place = file ++ codes ":" ++ decimal place.line ++ codes ":" ++ decimal place.col
+-- the name of a file by its number: 0 is the model, of this name
+abbrev pub file_name : List ℕ → ℕ → List ℕ
+file_name model file = if file == 0 then model else []
 
--- what is said of a fault of the file of this name
-abbrev pub fault_text : List ℕ → Fault → List ℕ
-fault_text file (LongFile f) = file ++ codes ": longer than 1048576 bytes\n"
-fault_text file (Lex place kind) = place_text file place ++ codes ": " ++ fault_words kind ++ codes "\n"
-fault_text file (Syntax place) = place_text file place ++ codes ": syntax error\n"
-fault_text file (Deep place) = place_text file place ++ codes ": nested too deeply\n"
-fault_text file (Form f) = file ++ codes ": not built yet\n"
+-- FILE: WORDS
+abbrev pub of_file : List ℕ → List ℕ → List ℕ
+of_file file words = file ++ codes ": " ++ words ++ codes "\n"
 
--- what is said of a status, where the model's file has this name
-abbrev pub report_text : List ℕ → Status → List ℕ
-report_text file (Done closing limit) = []
-report_text file Usage = codes "one model file is wanted\n"
-report_text file ReadFault = file ++ codes ": cannot read\n"
-report_text file (Refused fault) = fault_text file fault
-report_text file WriteFault = codes "cannot write\n"
-report_text file NoMemory = codes "out of memory\n"
+-- FILE:LINE:COLUMN: WORDS
+abbrev pub at_place : (ℕ → List ℕ) → Place → List ℕ → List ℕ
+at_place names place words = names place.file ++ codes ":" ++ decimal place.line ++ codes ":" ++ decimal place.col ++ codes ": " ++ words ++ codes "\n"
+
+-- what is said of a fault, where the files have these names
+abbrev pub fault_text : (ℕ → List ℕ) → Fault → List ℕ
+fault_text names (LongFile file) = of_file (names file) (codes "longer than 1048576 bytes")
+fault_text names (Lex place kind) = at_place names place (fault_words kind)
+fault_text names (Syntax place) = at_place names place (codes "syntax error")
+fault_text names (Deep place) = at_place names place (codes "nested too deeply")
+fault_text names (Form file) = of_file (names file) (codes "not built yet")
+
+-- what is said of a status
+abbrev pub report_text : (ℕ → List ℕ) → Status → List ℕ
+report_text names (Done closing limit) = []
+report_text names Usage = codes "one model file is wanted\n"
+report_text names ReadFault = of_file (names 0) (codes "cannot read")
+report_text names (Refused fault) = fault_text names fault
+report_text names WriteFault = codes "cannot write\n"
+report_text names NoMemory = codes "out of memory\n"

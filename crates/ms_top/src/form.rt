@@ -3,7 +3,7 @@
 ghost use Rattle.std.specs.Prelude.{◌≡◌, map};
 ghost use Rattle.ms_syntax.specs.Tree.{base_view, ex_view, links_view, declaration_view, goal_view, indices_view, item_view, kind_view, notes_view, tree_view};
 ghost use Rattle.ms_top.specs.Plain as spec;
-ghost use Rattle.ms_top.specs.Reads.{Reads, Declares};
+ghost use Rattle.ms_top.specs.Reading.{Gives, Declares};
 
 use crate::plain::{Comparison, Number, PlainDeclaration, PlainModel, Relation, Term, Total};
 use ms_syntax::{
@@ -13,7 +13,7 @@ use sqlite_items::Items;
 use std::alloc::{AllocError, AllocFailed, Global};
 
 /// Why a tree is not read as a model of the plain form.
-#[derive(Clone, Copy, Debug, PartialEq, Eq)]
+#[derive(Clone, Copy)]
 pub enum Unread {
     NotPlain,
     Memory,
@@ -68,7 +68,7 @@ fn number(expr: &Expr) -> Option<Number>
 }
 
 fn term(alloc: Global, expr: &Expr) -> Result<Term, Unread>
-    ensures { Reads (λ t. t) (spec.term_of (ex_view expr.now)) result }
+    ensures { Gives (λ t. t) (spec.term_of (ex_view expr.now)) result }
 {
     match expr {
         Expr::Name(_, word) => Ok(Term::Name(word.copy(alloc)?)),
@@ -78,7 +78,7 @@ fn term(alloc: Global, expr: &Expr) -> Result<Term, Unread>
 
 /// The terms behind the first.
 fn added(alloc: Global, links: &[Link]) -> Result<Items<Term>, Unread>
-    ensures { Reads (λ ts. ts) (spec.added_of (links_view links.now)) result }
+    ensures { Gives (λ ts. ts) (spec.added_of (links_view links.now)) result }
 {
     let mut found = Items::new(alloc);
     for link in links {
@@ -91,7 +91,7 @@ fn added(alloc: Global, links: &[Link]) -> Result<Items<Term>, Unread>
 }
 
 fn total(alloc: Global, expr: &Expr) -> Result<Total, Unread>
-    ensures { Reads (λ t. t) (spec.total_of (ex_view expr.now)) result }
+    ensures { Gives (λ t. t) (spec.total_of (ex_view expr.now)) result }
 {
     match expr {
         Expr::Sum(first, links) => Ok(Total {
@@ -121,7 +121,7 @@ fn relation(operator: Operator) -> Option<Relation>
 
 /// A comparison of two totals.
 fn compared(alloc: Global, expr: &Expr) -> Result<Comparison, Unread>
-    ensures { Reads (λ c. c) (spec.compared_of (ex_view expr.now)) result }
+    ensures { Gives (λ c. c) (spec.compared_of (ex_view expr.now)) result }
 {
     match expr {
         Expr::Comparison(first, link) => {
@@ -145,7 +145,7 @@ fn has_no_notes(notes: &[Note]) -> bool
 }
 
 fn comparison(alloc: Global, item: &Item) -> Result<Comparison, Unread>
-    ensures { Reads (λ c. c) (spec.comparison_of (item_view item.now)) result }
+    ensures { Gives (λ c. c) (spec.comparison_of (item_view item.now)) result }
 {
     match item {
         Item::Constraint(_, expr, notes) => {
@@ -172,8 +172,8 @@ fn range(expr: &Expr) -> Option<(Number, Number)>
 }
 
 /// The range of the values of a variable.
-fn values(mode: Mode, base: &Base) -> Option<(Number, Number)>
-    ensures { result ≡ spec.values_of mode (base_view base.now) }
+fn range_of_base(mode: Mode, base: &Base) -> Option<(Number, Number)>
+    ensures { result ≡ spec.range_of_base mode (base_view base.now) }
 {
     match mode {
         Mode::Var => match base {
@@ -190,11 +190,11 @@ fn has_no_indices(indices: &[Index]) -> bool
     indices.is_empty()
 }
 
-fn domain(kind: &Kind) -> Option<(Number, Number)>
-    ensures { result ≡ spec.domain_of (kind_view kind.now) }
+fn range_of_kind(kind: &Kind) -> Option<(Number, Number)>
+    ensures { result ≡ spec.range_of_kind (kind_view kind.now) }
 {
     if has_no_indices(&kind.indices) {
-        values(kind.mode, &kind.base)
+        range_of_base(kind.mode, &kind.base)
     } else {
         None
     }
@@ -208,12 +208,12 @@ fn is_bare(declaration: &Declaration) -> bool
 }
 
 fn declaration(alloc: Global, declaration: &Declaration) -> Result<PlainDeclaration, Unread>
-    ensures { Reads (λ d. d) (spec.declaration_of (declaration_view declaration.now)) result }
+    ensures { Gives (λ d. d) (spec.declaration_of (declaration_view declaration.now)) result }
 {
     if !is_bare(declaration) {
         return Err(Unread::NotPlain);
     }
-    let (lowest, highest) = domain(&declaration.kind).ok_or(Unread::NotPlain)?;
+    let (lowest, highest) = range_of_kind(&declaration.kind).ok_or(Unread::NotPlain)?;
     Ok(PlainDeclaration {
         lowest,
         highest,
@@ -255,7 +255,7 @@ fn declarations(alloc: Global, items: &[Item]) -> Result<Items<PlainDeclaration>
 }
 
 fn comparisons(alloc: Global, items: &[Item]) -> Result<Items<Comparison>, Unread>
-    ensures { Reads (λ cs. cs) (spec.all_of spec.comparison_of (map item_view items.now)) result }
+    ensures { Gives (λ cs. cs) (spec.all_of spec.comparison_of (map item_view items.now)) result }
 {
     let mut found = Items::new(alloc);
     for item in items {
@@ -266,7 +266,7 @@ fn comparisons(alloc: Global, items: &[Item]) -> Result<Items<Comparison>, Unrea
 
 /// The constraints before the item that solves.
 fn constraints(alloc: Global, items: &[Item]) -> Result<Items<Comparison>, Unread>
-    ensures { Reads (λ cs. cs) (spec.constraints_of (map item_view items.now)) result }
+    ensures { Gives (λ cs. cs) (spec.constraints_of (map item_view items.now)) result }
 {
     match items.split_last() {
         Some((last, others)) if is_satisfy(last) => comparisons(alloc, others),
@@ -279,7 +279,7 @@ fn parts(
     alloc: Global,
     items: &[Item],
 ) -> Result<(Items<PlainDeclaration>, Items<Comparison>), Unread>
-    ensures { Reads (λ r. r) (spec.parts_of (map item_view items.now)) result }
+    ensures { Gives (λ r. r) (spec.parts_of (map item_view items.now)) result }
 {
     let declarations = declarations(alloc, items)?;
     let constraints = constraints(alloc, &items[declarations.len()..])?;
@@ -288,7 +288,7 @@ fn parts(
 
 /// The model that a tree is.
 pub fn plain_model(alloc: Global, tree: &Tree) -> Result<PlainModel, Unread>
-    ensures { Reads (λ m. m) (spec.plain_of (tree_view tree.now)) result }
+    ensures { Gives (λ m. m) (spec.plain_of (tree_view tree.now)) result }
 {
     let (declarations, constraints) = parts(alloc, &tree.items)?;
     Ok(PlainModel {

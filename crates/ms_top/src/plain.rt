@@ -4,34 +4,34 @@ use ms_syntax::Word;
 use sqlite_items::Items;
 
 /// A number as it is written, with a `-` before its digits or not.
-#[derive(Clone, Copy, Debug, PartialEq, Eq)]
+#[derive(Clone, Copy)]
 pub struct Number {
     pub negative: bool,
     pub magnitude: u64,
 }
 
 /// `var LOWEST .. HIGHEST : NAME`
-#[derive(Debug, Drop)]
+#[derive(Drop)]
 pub struct PlainDeclaration {
     pub lowest: Number,
     pub highest: Number,
     pub name: Word,
 }
 
-#[derive(Debug, Drop)]
+#[derive(Drop)]
 pub enum Term {
     Number(Number),
     Name(Word),
 }
 
 /// Terms with `+` between them.
-#[derive(Debug, Drop)]
+#[derive(Drop)]
 pub struct Total {
     pub first: Term,
     pub others: Items<Term>,
 }
 
-#[derive(Clone, Copy, Debug, PartialEq, Eq)]
+#[derive(Clone, Copy)]
 pub enum Relation {
     Equal,
     NotEqual,
@@ -42,7 +42,7 @@ pub enum Relation {
 }
 
 /// `constraint LEFT RELATION RIGHT`
-#[derive(Debug, Drop)]
+#[derive(Drop)]
 pub struct Comparison {
     pub left: Total,
     pub relation: Relation,
@@ -50,7 +50,7 @@ pub struct Comparison {
 }
 
 /// A model of the plain form.
-#[derive(Debug, Drop)]
+#[derive(Drop)]
 pub struct PlainModel {
     pub declarations: Items<PlainDeclaration>,
     pub constraints: Items<Comparison>,

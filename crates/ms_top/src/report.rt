@@ -1,15 +1,41 @@
 //! What is said of a status that is not `Done`.
 
-ghost use Rattle.std.specs.Prelude.{◌≡◌, ◌++◌, ℕ, length, take, OnOk, IfOk, string_bytes};
-ghost use Rattle.ms_io.specs.Sink.{Gains};
+ghost use Rattle.std.specs.Prelude.{◌≡◌, ℕ, List, IfOk};
+ghost use Rattle.ms_io.specs.Sink.{Reports};
+ghost use Rattle.ms_top.specs.Answer.{Remains, SaysName};
 ghost use Rattle.ms_top.specs.Text as spec;
-ghost use Rattle.ms_top.specs.Answer.{Reports};
+ghost use Rattle.ms_top.specs.Text.{file_name, report_text};
 
+use crate::accept::MODEL;
 use crate::status::{Fault, Status};
 use itoa::Buffer;
-use ms_io::Sink;
-use ms_syntax::{LexKind, Place};
+use ms_io::{Sink, put_report};
+use ms_syntax::{FileNo, LexKind, Place};
 use std::alloc::{AllocError, Global};
+
+/// What is said where a model file is wanted.
+const USAGE: &[u8] = b"one model file is wanted\n";
+
+/// What is said where the output could not be written.
+const CANNOT_WRITE: &[u8] = b"cannot write\n";
+
+/// What is said where memory ran out.
+const NO_MEMORY: &[u8] = b"out of memory\n";
+
+/// The names of the files of a run.
+#[derive(Clone, Copy)]
+pub struct FileNames<'a> {
+    pub model: &'a [u8],
+}
+
+impl<'a> FileNames<'a> {
+    /// The name of the file of this number.
+    fn of(&self, file: FileNo) -> &'a [u8]
+        ensures { result.now ≡ file_name self.now.model.now file }
+    {
+        if file == MODEL { self.model } else { b"" }
+    }
+}
 
 fn fault_words(kind: LexKind) -> &'static [u8]
     ensures { result.now ≡ spec.fault_words kind }
@@ -22,45 +48,92 @@ fn fault_words(kind: LexKind) -> &'static [u8]
     }
 }
 
-fn push_place(text: &mut Vec<u8>, place: Place) -> Result<(), AllocError>
-    ensures { OnOk result (spec.place_text text.old.items place ≡ text.new.items) }
+/// `FILE: WORDS`
+fn of_file(alloc: Global, file: &[u8], words: &[u8]) -> Result<Vec<u8>, AllocError>
+    ensures { IfOk result (λ text. text.items ≡ spec.of_file file.now words.now) }
+{
+    let mut text = Vec::from_slice(alloc, file)?;
+    text.extend_from_slice(b": ")?;
+    text.extend_from_slice(words)?;
+    text.extend_from_slice(b"\n")?;
+    Ok(text)
+}
+
+/// `FILE:LINE:COLUMN: WORDS`
+fn at_place(
+    alloc: Global,
+    names: &FileNames,
+    place: &Place,
+    words: &[u8],
+) -> Result<Vec<u8>, AllocError>
+    ensures { IfOk result (λ text. text.items ≡ spec.at_place (file_name names.now.model.now) place.now words.now) }
 {
     let mut buffer = Buffer::new();
+    let mut text = Vec::from_slice(alloc, names.of(place.file))?;
     text.extend_from_slice(b":")?;
     text.extend_from_slice(buffer.format(place.line).as_bytes())?;
     text.extend_from_slice(b":")?;
-    text.extend_from_slice(buffer.format(place.col).as_bytes())
+    text.extend_from_slice(buffer.format(place.col).as_bytes())?;
+    text.extend_from_slice(b": ")?;
+    text.extend_from_slice(words)?;
+    text.extend_from_slice(b"\n")?;
+    Ok(text)
 }
 
-pub fn fault_text(alloc: Global, file: &[u8], fault: Fault) -> Result<Vec<u8>, AllocError>
-    ensures { IfOk result (λ text. text.items ≡ spec.fault_text file.now fault) }
+fn fault_text(alloc: Global, names: &FileNames, fault: &Fault) -> Result<Vec<u8>, AllocError>
+    ensures { IfOk result (λ text. text.items ≡ spec.fault_text (file_name names.now.model.now) fault.now) }
 {
-    let mut text = Vec::from_slice(alloc, file)?;
     match fault {
-        Fault::LongFile(_) => text.extend_from_slice(b": longer than 1048576 bytes\n")?,
-        Fault::Lex(place, kind) => {
-            push_place(&mut text, place)?;
-            text.extend_from_slice(b": ")?;
-            text.extend_from_slice(fault_words(kind))?;
-            text.extend_from_slice(b"\n")?;
-        }
-        Fault::Syntax(place) => {
-            push_place(&mut text, place)?;
-            text.extend_from_slice(b": syntax error\n")?;
-        }
-        Fault::Deep(place) => {
-            push_place(&mut text, place)?;
-            text.extend_from_slice(b": nested too deeply\n")?;
-        }
-        Fault::Form(_) => text.extend_from_slice(b": not built yet\n")?,
+        Fault::LongFile(file) => of_file(alloc, names.of(*file), b"longer than 1048576 bytes"),
+        Fault::Lex(place, kind) => at_place(alloc, names, place, fault_words(*kind)),
+        Fault::Syntax(place) => at_place(alloc, names, place, b"syntax error"),
+        Fault::Deep(place) => at_place(alloc, names, place, b"nested too deeply"),
+        Fault::Form(file) => of_file(alloc, names.of(*file), b"not built yet"),
     }
-    Ok(text)
 }
 
-pub fn read_fault_text(alloc: Global, file: &[u8]) -> Result<Vec<u8>, AllocError>
-    ensures { IfOk result (λ text. text.items ≡ spec.report_text file.now Status.ReadFault) }
+/// Puts words that took memory, and answers the status that they are said of, or that of no memory.
+fn put_made<E: Sink>(made: Result<Vec<u8>, AllocError>, status: Status, err: &mut E) -> Status
+    ensures status { SaysName status → Remains status result }
+    ensures reports { (names : ℕ → List ℕ) → IfOk made (λ text. text.items ≡ report_text names status) → Reports (report_text names result) (E.taken err.old) (E.faults err.old) (E.taken err.new) (E.faults err.new) }
 {
-    let mut text = Vec::from_slice(alloc, file)?;
-    text.extend_from_slice(b": cannot read\n")?;
-    Ok(text)
+    match made {
+        Ok(text) => {
+            put_report(text.as_slice(), err);
+            status
+        }
+        Err(_) => {
+            put_report(NO_MEMORY, err);
+            Status::NoMemory
+        }
+    }
+}
+
+/// Says what the status means, in one put; nothing where the run is done.
+pub fn report<E: Sink>(alloc: Global, names: &FileNames, status: Status, err: &mut E) -> Status
+    ensures status { Remains status result }
+    ensures reports { Reports (report_text (file_name names.now.model.now) result) (E.taken err.old) (E.faults err.old) (E.taken err.new) (E.faults err.new) }
+{
+    match &status {
+        Status::Done(_, _) => status,
+        Status::Usage => {
+            put_report(USAGE, err);
+            status
+        }
+        Status::WriteFault => {
+            put_report(CANNOT_WRITE, err);
+            status
+        }
+        Status::NoMemory => {
+            put_report(NO_MEMORY, err);
+            status
+        }
+        Status::ReadFault => {
+            put_made(of_file(alloc, names.of(MODEL), b"cannot read"), status, err)
+        }
+        Status::Refused(fault) => {
+            let text = fault_text(alloc, names, fault);
+            put_made(text, status, err)
+        }
+    }
 }

@@ -3,9 +3,10 @@ ghost use Rattle.ms_top.specs.Exit.{exit_code};
 
 use ms_base::{Closing, Limit};
 use ms_syntax::{FileNo, LexKind, Place};
+use std::alloc::AllocError;
 
 /// Why an input is not accepted.
-#[derive(Clone, Copy, Debug, PartialEq, Eq)]
+#[derive(Debug, Drop, PartialEq)]
 pub enum Fault {
     /// The file has more than 1048576 bytes.
     LongFile(FileNo),
@@ -20,7 +21,7 @@ pub enum Fault {
 }
 
 /// How a run of the program ended.
-#[derive(Clone, Copy, Debug, PartialEq, Eq)]
+#[derive(Debug, Drop, PartialEq)]
 pub enum Status {
     /// The run ended, with the first limit that was reached.
     Done(Closing, Option<Limit>),
@@ -37,8 +38,8 @@ pub enum Status {
 
 impl Status {
     /// The number that the program ends with.
-    pub fn code(self) -> u8
-        ensures { result ≡ exit_code self }
+    pub fn code(&self) -> u8
+        ensures { result ≡ exit_code self.now }
     {
         match self {
             Status::Done(_, _) => 0,
@@ -48,5 +49,16 @@ impl Status {
             Status::WriteFault => 4,
             Status::NoMemory => 5,
         }
+    }
+}
+
+impl From<AllocError> for Status {
+    ghost use Rattle.std.specs.Prelude.{◌≡◌};
+    ghost use Rattle.ms_top.specs.declared.status.Status.TheVariants.{NoMemory};
+
+    ghost from_gives = { λ _ status. status ≡ NoMemory };
+
+    fn from(_: AllocError) -> Status {
+        Status::NoMemory
     }
 }

@@ -2,7 +2,7 @@ use Rattle.std.proofs.Common.{◌∙◌, sym, ap, map}
 use Rattle.std.proofs.lemmas.Result.{err_from_is_err_and}
 use Rattle.ms_syntax.specs.Tree.{item_view}
 use Rattle.ms_top.specs.Plain.{beside, parts_of}
-use Rattle.ms_top.specs.Reads.{Fails}
+use Rattle.ms_top.specs.Reading.{Fails}
 use Rattle.ms_top.proofs.Gathering.{behind_them, beside_fails}
 use Rattle.ms_top.proofs.form.parts.Goals as goal
 

@@ -1,5 +1,0 @@
-use Rattle.ms_top.proofs.Reporting.{put_reports}
-use Rattle.ms_top.proofs.program.put_report.Goals as goal
-
-pub returns : goal.returns
-returns g c = put_reports c.args.text.now _ _ _ _ c.put.result c.put.ensures.ok c.put.ensures.err c.put.ensures.faults

@@ -1,0 +1,405 @@
+//! The program over files and sinks in memory.
+
+use ms_base::Closing;
+use ms_io::{MemFiles, MemSink, Sink};
+use ms_syntax::{LexKind, Place};
+use ms_top::{Fault, Status, one_outcome, run};
+use std::alloc::{AllocError, Global};
+use std::process::Abort;
+use std::test::Fail;
+
+const PLAIN: Status = Status::Done(Closing::Plain, None);
+
+const UNSATISFIABLE: Status = Status::Done(Closing::Unsatisfiable, None);
+
+const FORM: Status = Status::Refused(Fault::Form(0));
+
+fn lex(line: u32, col: u32, kind: LexKind) -> Status {
+    Status::Refused(Fault::Lex(Place { file: 0, line, col }, kind))
+}
+
+fn syntax(line: u32, col: u32) -> Status {
+    Status::Refused(Fault::Syntax(Place { file: 0, line, col }))
+}
+
+fn words(alloc: Global, list: &[&str]) -> Result<Vec<String>, AllocError> {
+    let mut words = Vec::new(alloc);
+    for word in list {
+        words.push(String::from_str(alloc, *word)?)?;
+    }
+    Ok(words)
+}
+
+/// The program's answer for the bytes of a model.
+fn answers(
+    rt: &impl Abort,
+    alloc: Global,
+    model: &[u8],
+    status: Status,
+    out: &[u8],
+    err: &[u8],
+) -> Result<(), AllocError> {
+    let mut files = MemFiles::new(alloc);
+    files.hold("m.mzn", model)?;
+    // One put writes the answer, and one says what is wrong: the put after it is the first that is not made.
+    let mut written = MemSink::new(alloc);
+    written.fail(u64::from(!out.is_empty()), 0)?;
+    let mut said = MemSink::new(alloc);
+    said.fail(u64::from(!err.is_empty()), 0)?;
+    let words = words(alloc, &["minisearch", "m.mzn"])?;
+    let answer = run(alloc, &words, &mut files, &mut written, &mut said);
+    assert_eq!(rt; answer, status);
+    assert_eq!(rt; answer.code(), u8::from(!err.is_empty()));
+    assert_eq!(rt; written.bytes(), out);
+    assert_eq!(rt; said.bytes(), err);
+    assert!(rt; written.put(b"more").is_err());
+    assert!(rt; said.put(b"more").is_err());
+    Ok(())
+}
+
+#[test]
+fn models_are_answered(rt: HostRuntime) -> Result<(), Fail> {
+    let alloc = rt.alloc();
+    let nothing = b"".as_slice();
+    let separator = b"----------\n".as_slice();
+    let unsatisfiable = b"=====UNSATISFIABLE=====\n".as_slice();
+    let form = b"m.mzn: not built yet\n".as_slice();
+    let rows = [
+        (
+            b"var 1..3: x; var 1..3: y; constraint x + y = 4; constraint x < y; solve satisfy;".as_slice(),
+            PLAIN,
+            b"x = 1;\ny = 3;\n----------\n".as_slice(),
+            nothing,
+        ),
+        (
+            b"var 1..2: x; constraint x < x; solve satisfy;",
+            UNSATISFIABLE,
+            unsatisfiable,
+            nothing,
+        ),
+        (
+            b"var -1..1: a;var 0 .. 2:b;constraint a+b+1>=-1+4;constraint a!=b ; solve satisfy;",
+            PLAIN,
+            b"a = 0;\nb = 2;\n----------\n",
+            nothing,
+        ),
+        (b"solve satisfy", PLAIN, separator, nothing),
+        (
+            b"% one\r\nsolve /* two */ satisfy;\r\n",
+            PLAIN,
+            separator,
+            nothing,
+        ),
+        (
+            b"var 1..0: x; solve satisfy;",
+            UNSATISFIABLE,
+            unsatisfiable,
+            nothing,
+        ),
+        (
+            b"var 2..9: x; constraint x <= 3; constraint x > 2; constraint x == 3; solve satisfy;",
+            PLAIN,
+            b"x = 3;\n----------\n",
+            nothing,
+        ),
+        (
+            b"var -1000000..0: x; solve satisfy;",
+            PLAIN,
+            b"x = -1000000;\n----------\n",
+            nothing,
+        ),
+        (b"var -1000001..0: x; solve satisfy;", FORM, nothing, form),
+        (b"", FORM, nothing, form),
+        (b" \t\r\n", FORM, nothing, form),
+        (
+            b"var 1..3 x;",
+            syntax(1, 10),
+            nothing,
+            b"m.mzn:1:10: syntax error\n",
+        ),
+        (
+            b"var 1..2: x; var 1..2: x; solve satisfy;",
+            FORM,
+            nothing,
+            form,
+        ),
+        (b"constraint y > 0; solve satisfy;", FORM, nothing, form),
+        (
+            b"var 1..3: x; constraint x<-1; solve satisfy;",
+            FORM,
+            nothing,
+            form,
+        ),
+        (b"solve minimize 3;", FORM, nothing, form),
+        (
+            b"var 1..3: x; constraint x = (1); solve satisfy;",
+            FORM,
+            nothing,
+            form,
+        ),
+        (
+            b"constraint 1 = 1; var 1..3: x; solve satisfy;",
+            FORM,
+            nothing,
+            form,
+        ),
+        (b"solve satisfy; constraint 1 = 1", FORM, nothing, form),
+        (
+            b"varx 1..3: x; solve satisfy;",
+            syntax(1, 6),
+            nothing,
+            b"m.mzn:1:6: syntax error\n",
+        ),
+        (
+            b"var 1..: x; solve satisfy;",
+            syntax(1, 8),
+            nothing,
+            b"m.mzn:1:8: syntax error\n",
+        ),
+        (
+            b"solve satisfy;;",
+            syntax(1, 15),
+            nothing,
+            b"m.mzn:1:15: syntax error\n",
+        ),
+        (
+            b"constraint 1 < 2 < 3; solve satisfy;",
+            syntax(1, 18),
+            nothing,
+            b"m.mzn:1:18: syntax error\n",
+        ),
+        (
+            b"constraint a < b < c; solve satisfy;",
+            syntax(1, 18),
+            nothing,
+            b"m.mzn:1:18: syntax error\n",
+        ),
+        (
+            b"\n solve % not yet\n",
+            syntax(2, 7),
+            nothing,
+            b"m.mzn:2:7: syntax error\n",
+        ),
+        (
+            b"solve satisfy;\n\xff",
+            lex(2, 1, LexKind::BadByte),
+            nothing,
+            b"m.mzn:2:1: unexpected byte\n",
+        ),
+        (
+            b"\"ab",
+            lex(1, 1, LexKind::OpenText),
+            nothing,
+            b"m.mzn:1:1: text is not closed\n",
+        ),
+        (
+            b" /* a",
+            lex(1, 2, LexKind::OpenComment),
+            nothing,
+            b"m.mzn:1:2: comment is not closed\n",
+        ),
+        (
+            b"9223372036854775808",
+            lex(1, 1, LexKind::BigNumber),
+            nothing,
+            b"m.mzn:1:1: number too large\n",
+        ),
+    ];
+    for (model, status, out, err) in rows {
+        answers(&rt, alloc, model, status, out, err)?;
+    }
+    Ok(())
+}
+
+/// The text, so many times, and then an end.
+fn repeated(alloc: Global, text: &[u8], times: usize, end: &[u8]) -> Result<Vec<u8>, AllocError> {
+    let mut bytes = Vec::new(alloc);
+    for _ in 0..times {
+        bytes.extend_from_slice(text)?;
+    }
+    bytes.extend_from_slice(end)?;
+    Ok(bytes)
+}
+
+/// So many declarations, of the names `a`, `b` and on.
+fn declared(alloc: Global, names: &[u8]) -> Result<Vec<u8>, AllocError> {
+    let mut bytes = Vec::new(alloc);
+    for name in names {
+        bytes.extend_from_slice(b"var 0..1: ")?;
+        bytes.push(*name)?;
+        bytes.extend_from_slice(b";")?;
+    }
+    bytes.extend_from_slice(b"solve satisfy;")?;
+    Ok(bytes)
+}
+
+/// A front, the text so many times, and then an end.
+fn within(
+    alloc: Global,
+    front: &[u8],
+    text: &[u8],
+    times: usize,
+    end: &[u8],
+) -> Result<Vec<u8>, AllocError> {
+    let mut bytes = Vec::from_slice(alloc, front)?;
+    bytes.extend_from_slice(&repeated(alloc, text, times, end)?)?;
+    Ok(bytes)
+}
+
+/// The longest file, and one byte more; the same length of bytes that are no model.
+#[test]
+fn files_are_short(rt: HostRuntime) -> Result<(), Fail> {
+    let alloc = rt.alloc();
+    let longest = repeated(alloc, b" ", 1048562, b"solve satisfy;")?;
+    answers(&rt, alloc, &longest, PLAIN, b"----------\n", b"")?;
+    let longer = repeated(alloc, b" ", 1048563, b"solve satisfy;")?;
+    let long = Status::Refused(Fault::LongFile(0));
+    let text = b"m.mzn: longer than 1048576 bytes\n".as_slice();
+    answers(&rt, alloc, &longer, long, b"", text)?;
+    let other = repeated(alloc, b";", 1048576, b"")?;
+    let text = b"m.mzn:1:1: syntax error\n".as_slice();
+    answers(&rt, alloc, &other, syntax(1, 1), b"", text)?;
+    Ok(())
+}
+
+/// Eight declarations and nine, a hundred terms and one more, the greatest number and one more.
+#[test]
+fn plain_models_are_small(rt: HostRuntime) -> Result<(), Fail> {
+    let alloc = rt.alloc();
+    let eight = declared(alloc, b"abcdefgh")?;
+    let zeros = b"a = 0;\nb = 0;\nc = 0;\nd = 0;\ne = 0;\nf = 0;\ng = 0;\nh = 0;\n----------\n";
+    answers(&rt, alloc, &eight, PLAIN, zeros, b"")?;
+    let end = b"0 = 0; solve satisfy;".as_slice();
+    let hundred = within(alloc, b"constraint ", b"0 + ", 99, end)?;
+    answers(&rt, alloc, &hundred, PLAIN, b"----------\n", b"")?;
+    let greatest = b"var 0..1000000: x; constraint x >= 1000000; solve satisfy;".as_slice();
+    answers(
+        &rt,
+        alloc,
+        greatest,
+        PLAIN,
+        b"x = 1000000;\n----------\n",
+        b"",
+    )?;
+
+    let form = b"m.mzn: not built yet\n".as_slice();
+    let nine = declared(alloc, b"abcdefghi")?;
+    answers(&rt, alloc, &nine, FORM, b"", form)?;
+    let more = within(alloc, b"constraint ", b"0 + ", 100, end)?;
+    answers(&rt, alloc, &more, FORM, b"", form)?;
+    let greater = b"var 0..1000001: x; solve satisfy;".as_slice();
+    answers(&rt, alloc, greater, FORM, b"", form)?;
+    Ok(())
+}
+
+/// Two hundred brackets, one in another, and one more.
+#[test]
+fn brackets_nest_so_deep(rt: HostRuntime) -> Result<(), Fail> {
+    let alloc = rt.alloc();
+    let opened = within(alloc, b"constraint ", b"(", 200, b"1")?;
+    let nested = within(alloc, &opened, b")", 200, b"; solve satisfy;")?;
+    answers(&rt, alloc, &nested, FORM, b"", b"m.mzn: not built yet\n")?;
+    let deep = within(alloc, b"constraint ", b"(", 201, b"")?;
+    let place = Place {
+        file: 0,
+        line: 1,
+        col: 212,
+    };
+    let status = Status::Refused(Fault::Deep(place));
+    let text = b"m.mzn:1:212: nested too deeply\n".as_slice();
+    answers(&rt, alloc, &deep, status, b"", text)?;
+    Ok(())
+}
+
+/// Each beginning of a model's text is refused, up to that from which only the last mark is missing.
+#[test]
+fn cut_texts_are_answered(rt: HostRuntime) -> Result<(), Fail> {
+    let alloc = rt.alloc();
+    let text =
+        b"var 1..3: x; var 1..3: y; constraint x + y = 4; constraint x < y; solve satisfy;".as_slice();
+    for (len, _) in text.iter().enumerate() {
+        let mut files = MemFiles::new(alloc);
+        let (front, behind) = text.split_at(len);
+        files.hold("m.mzn", front)?;
+        let mut written = MemSink::new(alloc);
+        let mut said = MemSink::new(alloc);
+        let words = words(alloc, &["minisearch", "m.mzn"])?;
+        let answer = run(alloc, &words, &mut files, &mut written, &mut said);
+        if behind == b";".as_slice() {
+            assert_eq!(rt; answer, PLAIN);
+        } else {
+            let is_fault = matches!(
+                answer,
+                Status::Refused(Fault::Syntax(_) | Fault::Lex(_, _) | Fault::Form(_))
+            );
+            assert!(rt; is_fault);
+            assert_eq!(rt; written.bytes(), b"".as_slice());
+        }
+    }
+    Ok(())
+}
+
+/// The words have to be two; nothing is read otherwise.
+#[test]
+fn words_are_two(rt: HostRuntime) -> Result<(), Fail> {
+    let alloc = rt.alloc();
+    for list in [
+        ["minisearch"].as_slice(),
+        ["minisearch", "m.mzn", "d.dzn"].as_slice(),
+    ] {
+        let mut files = MemFiles::new(alloc);
+        files.hold("m.mzn", b"solve satisfy;")?;
+        let mut written = MemSink::new(alloc);
+        let mut said = MemSink::new(alloc);
+        let words = words(alloc, list)?;
+        let answer = run(alloc, &words, &mut files, &mut written, &mut said);
+        assert_eq!(rt; answer, Status::Usage);
+        assert_eq!(rt; answer.code(), 2);
+        assert_eq!(rt; written.bytes(), b"".as_slice());
+        assert_eq!(rt; said.bytes(), b"one model file is wanted\n".as_slice());
+    }
+    one_outcome();
+    Ok(())
+}
+
+/// A file that is not there, and one whose read fails.
+#[test]
+fn reads_fail(rt: HostRuntime) -> Result<(), Fail> {
+    let alloc = rt.alloc();
+    let mut files = MemFiles::new(alloc);
+    files.hold("m.mzn", b"solve satisfy;")?;
+    files.fail(1)?;
+    for (file, text) in [
+        ("other.mzn", b"other.mzn: cannot read\n".as_slice()),
+        ("m.mzn", b"m.mzn: cannot read\n"),
+    ] {
+        let mut written = MemSink::new(alloc);
+        let mut said = MemSink::new(alloc);
+        let words = words(alloc, &["minisearch", file])?;
+        let answer = run(alloc, &words, &mut files, &mut written, &mut said);
+        assert_eq!(rt; answer, Status::ReadFault);
+        assert_eq!(rt; answer.code(), 3);
+        assert_eq!(rt; written.bytes(), b"".as_slice());
+        assert_eq!(rt; said.bytes(), text);
+    }
+    Ok(())
+}
+
+/// A put that fails after three bytes, and a report of which one byte is taken.
+#[test]
+fn puts_fail(rt: HostRuntime) -> Result<(), Fail> {
+    let alloc = rt.alloc();
+    let mut files = MemFiles::new(alloc);
+    files.hold("m.mzn", b"var 1..2: x; solve satisfy;")?;
+    let mut written = MemSink::new(alloc);
+    written.fail(0, 3)?;
+    let mut said = MemSink::new(alloc);
+    said.fail(0, 1)?;
+    let words = words(alloc, &["minisearch", "m.mzn"])?;
+    let answer = run(alloc, &words, &mut files, &mut written, &mut said);
+    assert_eq!(rt; answer, Status::WriteFault);
+    assert_eq!(rt; answer.code(), 4);
+    assert_eq!(rt; written.bytes(), b"x =".as_slice());
+    assert_eq!(rt; said.bytes(), b"c".as_slice());
+    Ok(())
+}
