@@ -17,7 +17,7 @@ mod std_sink;
 pub use files::{FileFault, Files};
 pub use mem_files::MemFiles;
 pub use mem_sink::MemSink;
-pub use os_files::OsFiles;
+pub use os_files::{OsFiles, read_whole};
 pub use report::put_report;
 pub use sink::{Failed, Sink};
 pub use std_sink::StdSink;

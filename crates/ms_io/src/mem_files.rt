@@ -128,33 +128,3 @@ impl Files for MemFiles {
         }
     }
 }
-
-#[cfg(test)]
-mod tests {
-    use super::*;
-    use std::test::Fail;
-
-    fn read_twice<F: Files>(alloc: Global, files: &mut F, name: &str) -> Result<Bytes, FileFault> {
-        files.read(alloc, name, 3)?;
-        files.read(alloc, name, 3)
-    }
-
-    #[test]
-    fn reads(rt: HostRuntime) -> Result<(), Fail> {
-        let mut files = MemFiles::new(rt.alloc());
-        files.hold("m", b"old")?;
-        files.hold("n", b"")?;
-        files.hold("m", b"var")?;
-        files.fail(4)?;
-        let read = read_twice(rt.alloc(), &mut files, "m")?;
-        assert_eq!(rt; read.as_slice(), b"var".as_slice());
-        assert!(rt; matches!(files.read(rt.alloc(), "m", 2), Err(FileFault::LongFile)));
-        assert_eq!(rt; files.read(rt.alloc(), "n", 0)?.as_slice(), b"".as_slice());
-        assert_eq!(rt; files.faults, 0);
-        assert!(rt; matches!(files.read(rt.alloc(), "m", 3), Err(FileFault::Failed)));
-        assert!(rt; matches!(files.read(rt.alloc(), "M", 3), Err(FileFault::Failed)));
-        assert_eq!(rt; files.faults, 2);
-        assert_eq!(rt; files.asked.len(), 6);
-        Ok(())
-    }
-}

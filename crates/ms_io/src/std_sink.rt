@@ -51,6 +51,12 @@ impl<W: Write> StdSink<W> {
     {
         StdSink { writer, faults: 0 }
     }
+
+    pub fn into_writer(self) -> W
+        ensures { result ≡ self.writer }
+    {
+        self.writer
+    }
 }
 
 impl<W: Write> Sink for StdSink<W> {
@@ -69,69 +75,5 @@ impl<W: Write> Sink for StdSink<W> {
         }
         self.faults = self.faults.saturating_add(1);
         Err(Failed)
-    }
-}
-
-#[cfg(test)]
-mod tests {
-    use super::*;
-    use std::fs::OpenOptions;
-    use std::io;
-    use std::test::Fail;
-
-    /// Takes one byte at each second write, and is interrupted at the others; past its room it takes nothing.
-    #[derive(Drop)]
-    struct Slow {
-        taken: u64,
-        room: u64,
-        is_interrupted: bool,
-    }
-
-    impl Write for Slow {
-        fn write(&mut self, buf: &[u8]) -> io::Result<usize> {
-            self.is_interrupted = !self.is_interrupted;
-            if self.is_interrupted {
-                return Err(io::Error::from(ErrorKind::Interrupted));
-            }
-            if buf.is_empty() || self.taken >= self.room {
-                return Ok(0);
-            }
-            self.taken += 1;
-            Ok(1)
-        }
-
-        fn flush(&mut self) -> io::Result<()> {
-            Ok(())
-        }
-    }
-
-    #[test]
-    fn writes_in_parts(rt: HostRuntime) {
-        for (room, is_whole) in [(3, true), (2, false), (0, false)] {
-            let slow = Slow {
-                taken: 0,
-                room,
-                is_interrupted: false,
-            };
-            let mut sink = StdSink::new(slow);
-            assert_eq!(rt; sink.put(b"abc").is_ok(), is_whole);
-            assert_eq!(rt; sink.writer.taken, room);
-            assert_eq!(rt; sink.faults == 0, is_whole);
-        }
-    }
-
-    #[test]
-    fn writes(rt: HostRuntime) -> Result<(), Fail> {
-        let mut out = StdSink::new(rt.stdout());
-        out.put(b"to standard output\n")?;
-        let mut err = StdSink::new(rt.stderr());
-        err.put(b"to standard error\n")?;
-        assert_eq!(rt; out.faults + err.faults, 0);
-        let mut full = StdSink::new(OpenOptions::new().write(true).open(&rt, "/dev/full")?);
-        full.put(b"")?;
-        assert_eq!(rt; full.faults, 0);
-        assert!(rt; full.put(b"a").is_err());
-        assert_eq!(rt; full.faults, 1);
-        Ok(())
     }
 }

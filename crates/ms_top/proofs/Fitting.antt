@@ -88,11 +88,11 @@ module _ (b : List Span) where
     high = h.high;
   }
 
-  is_number : (n : ℕ) (t : Ground) → Bounded b n t → is_number (checked b t) ≡ true
-  is_number n t h = ap (λ u. u && is_numeric t) h.fit ∙ h.numeric
+  bounded_number : (n : ℕ) (t : Ground) → Bounded b n t → is_number (checked b t) ≡ true
+  bounded_number n t h = ap (λ u. u && is_numeric t) h.fit ∙ h.numeric
 
   are_numbers : (n m : ℕ) (x y : Ground) → Bounded b n x → Bounded b m y → (is_number (checked b x) && is_number (checked b y)) ≡ true
-  are_numbers n m x y h k = ap (λ u. u && is_number (checked b y)) (is_number n x h) ∙ is_number m y k
+  are_numbers n m x y h k = ap (λ u. u && is_number (checked b y)) (bounded_number n x h) ∙ bounded_number m y k
 
   add_bounded : (n m : ℕ) (x y : Ground) → n + m + 1 < 2 ^ 50 → Bounded b n x → Bounded b m y → Bounded b (n + m + 1) (g.Add x y)
   add_bounded n m x y small h k =
@@ -126,8 +126,8 @@ module _ (b : List Span) where
 record IsPlace (b : List Span) (v : ℕ) : Type 0 where
   number : ℤ
   within : v < length b
-  here : span_at b v ≡ point is_number
-  bounded : IsBounded 1000000 is_number
+  here : span_at b v ≡ point number
+  bounded : IsBounded 1000000 number
 
 within_bounded : (d : PlainDeclaration) (z : ℤ) → is_small_declaration d ≡ true → (domain_of d).lowest ≤ℤ z → z ≤ℤ (domain_of d).highest → IsBounded 1000000 z
 within_bounded d z small low high =
