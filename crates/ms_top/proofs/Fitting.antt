@@ -72,8 +72,8 @@ module _ (b : List Span) where
   of_layer : (t : Ground) (d : F.Ground-F Ground) → out-Ground t ≡ d → well_formed_rule b (map-Ground Ground Checked (checked b) d) ≡ true → is_well_formed b t ≡ true
   of_layer t d e h = fit_out b t ∙ ap (λ z. well_formed_rule b (map-Ground Ground Checked (checked b) z)) e ∙ h
 
-  reach_layer : (t : Ground) (d : F.Ground-F Ground) → out-Ground t ≡ d → enclosure b t ≡ enclosure_step b (map-Ground Ground Enclosure (enclosure b) d)
-  reach_layer t d e = fold_out-Ground Enclosure (enclosure_step b) t ∙ ap (λ z. enclosure_step b (map-Ground Ground Enclosure (enclosure b) z)) e
+  enclosure_layer : (t : Ground) (d : F.Ground-F Ground) → out-Ground t ≡ d → enclosure b t ≡ enclosure_step b (map-Ground Ground Enclosure (enclosure b) d)
+  enclosure_layer t d e = fold_out-Ground Enclosure (enclosure_step b) t ∙ ap (λ z. enclosure_step b (map-Ground Ground Enclosure (enclosure b) z)) e
 
   numeric_of : (t : Ground) (d : F.Ground-F Ground) → out-Ground t ≡ d → is_numeric t ≡ numeric_layer (map-Ground Ground Bool is_numeric d)
   numeric_of t d e = fold_out-Ground Bool numeric_layer t ∙ ap (λ z. numeric_layer (map-Ground Ground Bool is_numeric z)) e
@@ -83,7 +83,7 @@ module _ (b : List Span) where
     fit = of_layer (g.Num z) (F.Num z) (g.outs-Num z) (narrow_of 1000000 (point z) (lit< tt) h.low h.high);
     numeric = numeric_of (g.Num z) (F.Num z) (g.outs-Num z);
     span = point z;
-    enclosure = reach_layer (g.Num z) (F.Num z) (g.outs-Num z);
+    enclosure = enclosure_layer (g.Num z) (F.Num z) (g.outs-Num z);
     low = h.low;
     high = h.high;
   }
@@ -98,8 +98,8 @@ module _ (b : List Span) where
   add_bounded n m x y small h k =
       let span : Span = add_span h.span k.span in
       let reached : r.numeric_enclosure (r.both_intervals add_span (enclosure b x).interval (enclosure b y).interval) ((enclosure b x).may_be_undefined || (enclosure b y).may_be_undefined) ≡ r.numeric_enclosure (Some span) false =
-      ap (λ q. r.numeric_enclosure (r.both_intervals add_span q.interval (enclosure b y).interval) (q.may_be_undefined || (enclosure b y).may_be_undefined)) h.reach
-      ∙ ap (λ q. r.numeric_enclosure (r.both_intervals add_span (Some h.span) q.interval) q.may_be_undefined) k.reach in
+      ap (λ q. r.numeric_enclosure (r.both_intervals add_span q.interval (enclosure b y).interval) (q.may_be_undefined || (enclosure b y).may_be_undefined)) h.enclosure
+      ∙ ap (λ q. r.numeric_enclosure (r.both_intervals add_span (Some h.span) q.interval) q.may_be_undefined) k.enclosure in
       let low : negsuc (n + m + 1) ≤ℤ span.lo = added_low n m h.span.lo k.span.lo h.low k.low in
       let high : span.hi ≤ℤ pos (n + m + 1) = added_high n m h.span.hi k.span.hi h.high k.high in
       record {
@@ -107,7 +107,7 @@ module _ (b : List Span) where
             (ap (λ u. u && is_narrow_of (enclosure_step b (F.Add (enclosure b x) (enclosure b y)))) (are_numbers n m x y h k) ∙ ap is_narrow_of reached ∙ narrow_of (n + m + 1) span small low high);
         numeric = numeric_of (g.Add x y) (F.Add x y) (g.outs-Add x y);
         span = span;
-        enclosure = reach_layer (g.Add x y) (F.Add x y) (g.outs-Add x y) ∙ reached;
+        enclosure = enclosure_layer (g.Add x y) (F.Add x y) (g.outs-Add x y) ∙ reached;
         low = low;
         high = high;
       }
@@ -170,7 +170,7 @@ var_bounded b v p =
       fit = of_layer b (g.Var v) (F.Var v) (g.outs-Var v) (ap (λ u. u && is_narrow (span_at b v)) has ∙ narrow);
       numeric = numeric_of b (g.Var v) (F.Var v) (g.outs-Var v);
       span = point z;
-      enclosure = reach_layer b (g.Var v) (F.Var v) (g.outs-Var v) ∙ ap (λ s. r.numeric_enclosure (Some s) false) p.here;
+      enclosure = enclosure_layer b (g.Var v) (F.Var v) (g.outs-Var v) ∙ ap (λ s. r.numeric_enclosure (Some s) false) p.here;
       low = p.bounded.low;
       high = p.bounded.high;
     }
