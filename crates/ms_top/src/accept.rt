@@ -1,6 +1,7 @@
 //! From the bytes of a file to the model that they are a text of, or the status of a run that has none.
 
-ghost use Rattle.std.specs.Prelude.{◌≡◌, ◌≢◌, ◌<◌, ◌⊎◌, ◌++◌, ◌∷◌, [], ℕ, List, IsTrue, IfOk, IfErr, MatchResult, length, Err};
+ghost use Rattle.std.specs.Prelude.{◌≡◌, ◌≢◌, ◌<◌, ◌⊎◌, ◌++◌, ◌∷◌, [], ℕ, List, IsTrue, IfOk};
+ghost use Rattle.std.specs.Prelude.{IfErr, MatchResult, length, Err};
 ghost use Rattle.ms_io.specs.Files.{HasFile, Rose};
 ghost use Rattle.ms_lexer.specs.Reading.{FaultIs, IsAmong};
 ghost use Rattle.ms_syntax.specs.Cut.{HasTokens, HasFault};
@@ -133,15 +134,21 @@ pub fn accepted_file<F: Files>(
     files: &mut F,
 ) -> Result<PlainModel, Status>
     ensures told { F.told files.new ≡ F.told files.old }
-    ensures asks { MatchResult result (λ _. F.asked files.new ≡ F.asked files.old ++ file.now ∷ []) (λ e. AsksFor file.now e (F.asked files.old) (F.asked files.new)) }
+    ensures asks { MatchResult result
+        (λ _. F.asked files.new ≡ F.asked files.old ++ file.now ∷ []) (λ e. AsksFor file.now e
+        (F.asked files.old) (F.asked files.new)) }
 
-    ensures accepted { (bytes : List ℕ) → HasFile (F.told files.old) file.now bytes → IfOk result (λ m. IsAccepted bytes m) }
+    ensures accepted { (bytes : List ℕ) → HasFile (F.told files.old) file.now bytes →
+        IfOk result (λ m. IsAccepted bytes m) }
     ensures small { IfOk result (λ m. IsTrue (plain.is_small m)) }
-    ensures refused { (bytes : List ℕ) → HasFile (F.told files.old) file.now bytes → IfErr result (λ e. RefusesFile bytes e) }
+    ensures refused { (bytes : List ℕ) → HasFile (F.told files.old) file.now bytes →
+        IfErr result (λ e. RefusesFile bytes e) }
 
-    ensures read_fault { result ≡ Err Status.ReadFault → Rose (F.faults files.old) (F.faults files.new) }
+    ensures read_fault { result ≡ Err Status.ReadFault →
+        Rose (F.faults files.old) (F.faults files.new) }
     ensures failed_read { F.faults files.old < F.faults files.new → result ≡ Err Status.ReadFault }
-    ensures missing { IsMissing (F.told files.old) file.now → (result ≡ Err Status.ReadFault) ⊎ (result ≡ Err Status.NoMemory) }
+    ensures missing { IsMissing (F.told files.old) file.now →
+        (result ≡ Err Status.ReadFault) ⊎ (result ≡ Err Status.NoMemory) }
     ensures ends { IfErr result (λ e. (e ≢ Status.Usage) × (e ≢ Status.WriteFault)) }
 {
     match files.read(alloc, file, FILE_LIMIT) {

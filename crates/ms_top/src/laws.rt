@@ -10,9 +10,12 @@ use ms_syntax::{one_answer, one_reading};
 
 /// Bytes have one fault at most, none where they are accepted, and are accepted as one model at most.
 pub fn one_outcome()
-    ensures one_fault { (bytes : List ℕ) (fault other : Fault) → IsFaulty bytes fault → IsFaulty bytes other → fault ≡ other }
-    ensures not_both { (bytes : List ℕ) (fault : Fault) (m : PlainModel) → IsFaulty bytes fault → IsAccepted bytes m → ⊥ }
-    ensures one_model { (bytes : List ℕ) (m n : PlainModel) → IsAccepted bytes m → IsAccepted bytes n → m ≡ n }
+    ensures one_fault { (bytes : List ℕ) (fault other : Fault) → IsFaulty bytes fault →
+        IsFaulty bytes other → fault ≡ other }
+    ensures not_both { (bytes : List ℕ) (fault : Fault) (m : PlainModel) → IsFaulty bytes fault →
+        IsAccepted bytes m → ⊥ }
+    ensures one_model { (bytes : List ℕ) (m n : PlainModel) → IsAccepted bytes m →
+        IsAccepted bytes n → m ≡ n }
 {
     one_reading();
     one_answer();

@@ -66,7 +66,8 @@ fn at_place(
     place: &Place,
     words: &[u8],
 ) -> Result<Vec<u8>, AllocError>
-    ensures { IfOk result (λ text. text.items ≡ spec.at_place (file_name names.now.model.now) place.now words.now) }
+    ensures { IfOk result (λ text. text.items ≡ spec.at_place
+        (file_name names.now.model.now) place.now words.now) }
 {
     let mut buffer = Buffer::new();
     let mut text = Vec::from_slice(alloc, names.of(place.file))?;
@@ -81,7 +82,8 @@ fn at_place(
 }
 
 fn fault_text(alloc: Global, names: &FileNames, fault: &Fault) -> Result<Vec<u8>, AllocError>
-    ensures { IfOk result (λ text. text.items ≡ spec.fault_text (file_name names.now.model.now) fault.now) }
+    ensures { IfOk result (λ text. text.items ≡ spec.fault_text
+        (file_name names.now.model.now) fault.now) }
 {
     match fault {
         Fault::LongFile(file) => of_file(alloc, names.of(*file), b"longer than 1048576 bytes"),
@@ -95,7 +97,10 @@ fn fault_text(alloc: Global, names: &FileNames, fault: &Fault) -> Result<Vec<u8>
 /// Puts words that took memory, and answers the status that they are said of, or that of no memory.
 fn put_made<E: Sink>(made: Result<Vec<u8>, AllocError>, status: Status, err: &mut E) -> Status
     ensures status { SaysName status → Remains status result }
-    ensures reports { (names : ℕ → List ℕ) → IfOk made (λ text. text.items ≡ report_text names status) → Reports (report_text names result) (E.taken err.old) (E.faults err.old) (E.taken err.new) (E.faults err.new) }
+    ensures reports { (names : ℕ → List ℕ) →
+        IfOk made (λ text. text.items ≡ report_text names status) →
+        Reports (report_text names result) (E.taken err.old) (E.faults err.old) (E.taken err.new)
+        (E.faults err.new) }
 {
     match made {
         Ok(text) => {
@@ -112,7 +117,8 @@ fn put_made<E: Sink>(made: Result<Vec<u8>, AllocError>, status: Status, err: &mu
 /// Says what the status means, in one put; nothing where the run is done.
 pub fn report<E: Sink>(alloc: Global, names: &FileNames, status: Status, err: &mut E) -> Status
     ensures status { Remains status result }
-    ensures reports { Reports (report_text (file_name names.now.model.now) result) (E.taken err.old) (E.faults err.old) (E.taken err.new) (E.faults err.new) }
+    ensures reports { Reports (report_text (file_name names.now.model.now) result)
+        (E.taken err.old) (E.faults err.old) (E.taken err.new) (E.faults err.new) }
 {
     match &status {
         Status::Done(_, _) => status,

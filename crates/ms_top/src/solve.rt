@@ -19,7 +19,8 @@ use std::alloc::{AllocError, Global};
 /// The least solution, if there is one.
 fn least_solution(alloc: Global, model: &PlainModel) -> Result<Option<Point>, AllocError>
     requires { IsTrue (is_small model.now) }
-    ensures { IfOk result (λ found. MatchOption found (HasNoSolution model.now) (IsLeast model.now)) }
+    ensures { IfOk result (λ found. MatchOption found (HasNoSolution model.now)
+        (IsLeast model.now)) }
 {
     let domains = domains(alloc, model)?;
     let trees = constraint_trees(alloc, model)?;
@@ -56,7 +57,8 @@ fn solve(alloc: Global, model: &PlainModel) -> Result<Solved, AllocError>
 
 /// Writes the text of a run that has ended.
 fn write<O: Sink>(solved: &Solved, out: &mut O) -> Status
-    ensures runs { (m : PlainModel) → IsRun m solved.now.closing solved.now.text.items → Runs m result (O.taken out.old) (O.taken out.new) }
+    ensures runs { (m : PlainModel) → IsRun m solved.now.closing solved.now.text.items →
+        Runs m result (O.taken out.old) (O.taken out.new) }
     ensures write_fault { result ≡ Status.WriteFault → Rose (O.faults out.old) (O.faults out.new) }
     ensures failed_write { O.faults out.old < O.faults out.new → result ≡ Status.WriteFault }
 {
