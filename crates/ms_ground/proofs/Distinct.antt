@@ -4,23 +4,24 @@ use Rattle.std.proofs.lemmas.Int.{ints}
 use Rattle.std.proofs.Math.ListN.{length-map}
 use Rattle.std.specs.Prelude.{ℤ, pos, ◌+ℤ◌, ◌-ℤ◌, ◌≤ℤ◌, int_le, int_lt, is_some, if◌then◌else◌}
 use Rattle.std.specs.List.{list_any, list_all}
-use Rattle.ms_num.specs.Span.{Span}
+use Rattle.ms_num.specs.Span.{Span, has}
+use Rattle.ms_trees.specs.Value.{how_many}
 use Rattle.ms_trees.specs.Enclosure as r
 use Rattle.ms_trees.specs.Enclosure.{enclosure}
 use Rattle.ms_ground.specs.Room.{between, has_many, first_meets}
-use Rattle.ms_trees.specs.WellFormed.{is_number, are_numbers, checked}
 use Rattle.ms_trees.specs.declared.tree.Enclosure.{Enclosure}
 use Rattle.ms_trees.specs.declared.tree.Ground.{Ground}
-use Rattle.ms_trees.proofs.Bools.{and_right, or_left, or_right, le_of, of_le, of_lt, not_le, lt_not, twice_not}
+use Rattle.ms_trees.proofs.Bools.{ap2, or_left, or_right, le_of, of_le, of_lt, not_le, lt_not, twice_not}
 use Rattle.ms_trees.proofs.Distinct.{place}
 
 -- ---- on a box
 
 -- one turn over parts and their intervals
 pub record SpansOver (b : List Span) (ys rest : List Ground) (q : Enclosure) : Type 0 where
-  pub fit : are_numbers (map (checked b) rest) ≡ true
   pub all : (p : Option Span → Bool) (t : Bool) → t ≡ p q.interval → list_all (λ (x : Enclosure). p x.interval) (map (enclosure b) ys) ≡ (t && list_all (λ (x : Enclosure). p x.interval) (map (enclosure b) rest))
   pub any : (p : Option Span → Bool) (t : Bool) → t ≡ p q.interval → list_any (λ (x : Enclosure). p x.interval) (map (enclosure b) ys) ≡ (t || list_any (λ (x : Enclosure). p x.interval) (map (enclosure b) rest))
+  pub many : (p : Option Span → Bool) → how_many (λ (x : Enclosure). p x.interval) (map (enclosure b) ys) ≡ (if p q.interval then suc (how_many (λ (x : Enclosure). p x.interval) (map (enclosure b) rest)) else how_many (λ (x : Enclosure). p x.interval) (map (enclosure b) rest))
+  pub row : (z : ℤ) (zs more : List ℤ) (t : Bool) → zs ≡ z ∷ more → t ≡ r.test_interval (λ s. has s z) q.interval → r.may_be_row (map (enclosure b) ys) zs ≡ (t && r.may_be_row (map (enclosure b) rest) more)
   pub first : first_meets (map (enclosure b) ys) ≡ (q.may_be_undefined || list_any (λ (x : Enclosure). r.compare_intervals r.meets q.interval x.interval) (map (enclosure b) rest))
   pub unsure : (r.any_may_be_undefined (map (enclosure b) ys) || r.some_several (map (enclosure b) ys))
       ≡ ((q.may_be_undefined || r.test_interval (λ s. int_lt s.lo s.hi) q.interval) || (r.any_may_be_undefined (map (enclosure b) rest) || r.some_several (map (enclosure b) rest)))
@@ -31,11 +32,12 @@ exchange false true true s = refl
 exchange false true false s = refl
 exchange false false l s = refl
 
-pub spans_over : (b : List Span) (ys rest : List Ground) (x : Ground) (q : Enclosure) → ys ≡ x ∷ rest → q ≡ r.numeric_enclosure (enclosure b x).interval (enclosure b x).may_be_undefined → are_numbers (map (checked b) ys) ≡ true → SpansOver b ys rest q
-spans_over b ys rest x q e is fit = record {
-  fit = and_right (is_number (checked b x)) (are_numbers (map (checked b) rest)) (ap (λ zs. are_numbers (map (checked b) zs)) (sym e) ∙ fit);
+pub spans_over : (b : List Span) (ys rest : List Ground) (x : Ground) (q : Enclosure) → ys ≡ x ∷ rest → q ≡ r.numeric_enclosure (enclosure b x).interval (enclosure b x).may_be_undefined → SpansOver b ys rest q
+spans_over b ys rest x q e is = record {
   all = λ p t k. ap (λ zs. list_all (λ (x : Enclosure). p x.interval) (map (enclosure b) zs)) e ∙ ap (λ (s : Enclosure). p s.interval && list_all (λ (x : Enclosure). p x.interval) (map (enclosure b) rest)) (sym is) ∙ ap (λ u. u && list_all (λ (x : Enclosure). p x.interval) (map (enclosure b) rest)) (sym k);
   any = λ p t k. ap (λ zs. list_any (λ (x : Enclosure). p x.interval) (map (enclosure b) zs)) e ∙ ap (λ (s : Enclosure). p s.interval || list_any (λ (x : Enclosure). p x.interval) (map (enclosure b) rest)) (sym is) ∙ ap (λ u. u || list_any (λ (x : Enclosure). p x.interval) (map (enclosure b) rest)) (sym k);
+  many = λ p. ap (λ zs. how_many (λ (x : Enclosure). p x.interval) (map (enclosure b) zs)) e ∙ ap (λ (s : Enclosure). if p s.interval then suc (how_many (λ (x : Enclosure). p x.interval) (map (enclosure b) rest)) else how_many (λ (x : Enclosure). p x.interval) (map (enclosure b) rest)) (sym is);
+  row = λ z zs more t f k. ap2 (λ us ws. r.may_be_row (map (enclosure b) us) ws) e f ∙ ap (λ (u : Enclosure). r.test_interval (λ s. has s z) u.interval && r.may_be_row (map (enclosure b) rest) more) (sym is) ∙ ap (λ w. w && r.may_be_row (map (enclosure b) rest) more) (sym k);
   first = ap (λ zs. first_meets (map (enclosure b) zs)) e ∙ ap (λ (s : Enclosure). s.may_be_undefined || list_any (λ (x : Enclosure). r.compare_intervals r.meets s.interval x.interval) (map (enclosure b) rest)) (sym is);
   unsure = ap (λ zs. r.any_may_be_undefined (map (enclosure b) zs) || r.some_several (map (enclosure b) zs)) e
       ∙ exchange (enclosure b x).may_be_undefined (r.any_may_be_undefined (map (enclosure b) rest)) (r.test_interval (λ s. int_lt s.lo s.hi) (enclosure b x).interval) (r.some_several (map (enclosure b) rest))
@@ -44,16 +46,14 @@ spans_over b ys rest x q e is fit = record {
 
 -- one turn over the places
 pub record MeetsOn (b : List Span) (xs : List Ground) (k : ℕ) : Type 0 where
-  pub fit : are_numbers (map (checked b) (drop (k + 1) xs)) ≡ true
   pub turn : (r.any_may_be_undefined (map (enclosure b) (drop k xs)) || r.some_meet (map (enclosure b) (drop k xs)))
       ≡ (first_meets (map (enclosure b) (drop k xs)) || (r.any_may_be_undefined (map (enclosure b) (drop (k + 1) xs)) || r.some_meet (map (enclosure b) (drop (k + 1) xs))))
 
-pub meets_on : (b : List Span) (xs : List Ground) (k : ℕ) → k < length xs → are_numbers (map (checked b) (drop k xs)) ≡ true → MeetsOn b xs k
-meets_on b xs k lt fit =
+pub meets_on : (b : List Span) (xs : List Ground) (k : ℕ) → k < length xs → MeetsOn b xs k
+meets_on b xs k lt =
     let p = place xs k lt in
     let rest = map (enclosure b) (drop (k + 1) xs) in
     record {
-      fit = and_right (is_number (checked b p.item)) (are_numbers (map (checked b) (drop (k + 1) xs))) (ap (λ zs. are_numbers (map (checked b) zs)) (sym p.here) ∙ fit);
       turn = ap (λ zs. r.any_may_be_undefined (map (enclosure b) zs) || r.some_meet (map (enclosure b) zs)) p.here
           ∙ exchange (enclosure b p.item).may_be_undefined (r.any_may_be_undefined rest) (list_any (λ q. r.compare_intervals r.meets (enclosure b p.item).interval q.interval) rest) (r.some_meet rest)
           ∙ sym (ap (λ zs. first_meets (map (enclosure b) zs) || (r.any_may_be_undefined rest || r.some_meet rest)) p.here);

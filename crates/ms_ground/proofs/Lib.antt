@@ -1,3 +1,4 @@
 pub mod Boxes
 pub mod Distinct
 pub mod Known
+pub mod Sums

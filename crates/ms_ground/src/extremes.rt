@@ -1,13 +1,15 @@
+//! The least and the greatest of parts, one part after the other.
+
 ghost use Rattle.std.specs.Prelude.{◌≡◌};
 ghost use Rattle.ms_trees.specs.Enclosure.{both_intervals};
 ghost use Rattle.ms_trees.specs.Extreme.{extreme_span, so_far_on};
 
-use crate::spans::numeric;
+use crate::operations::numeric;
 use ms_num::Iv;
 use ms_trees::{Enclosure, Extreme};
 
 /// One part more, where there may be none yet.
-pub fn take_reach(which: Extreme, best: Option<Enclosure>, x: Enclosure) -> Enclosure
+pub fn take_more(which: Extreme, best: Option<Enclosure>, x: Enclosure) -> Enclosure
     ensures { result ≡ so_far_on (extreme_span which) best x }
 {
     match best {

@@ -1,3 +1,5 @@
+//! Whether an access by index may miss all elements.
+
 ghost use Rattle.std.specs.Prelude.{◌≡◌, ◌/◌, ◌||◌, int_lt, int_le};
 ghost use Rattle.ms_trees.specs.Enclosure.{leaves as leaves_places};
 

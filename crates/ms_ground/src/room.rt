@@ -1,10 +1,17 @@
-ghost use Rattle.std.specs.Prelude.{◌≡◌, ◌<◌, length, slice_index_or, ◌≤ℤ◌, ◌+ℤ◌, ◌-ℤ◌, pos, ◌||◌, int_lt, if◌then◌else◌};
+//! What lists of distinct numbers, tables and counts ask of intervals.
+
+ghost use Rattle.std.specs.Prelude.{◌≡◌, ◌<◌, length, slice_index_or, ◌≤ℤ◌, ◌+ℤ◌, ◌-ℤ◌, pos, ◌||◌, int_lt, if◌then◌else◌, slice_set, ◌≤◌, Some, None};
 ghost use Rattle.ms_num.specs.Span.{has};
-ghost use Rattle.ms_trees.specs.Enclosure.{test_interval};
+ghost use Rattle.ms_trees.specs.Enclosure.{test_interval, numeric_enclosure};
+ghost use Rattle.ms_ground.specs.Known.{within_limits};
 ghost use Rattle.ms_ground.specs.Room.{between as between_of, has_many as has_many_of, lies_in as lies_in_of};
 
-use ms_num::Iv;
-use ms_trees::Enclosure;
+use crate::operations::numeric;
+use ms_num::{Iv, LIMIT};
+use ms_trees::{Enclosure, KEPT};
+
+// The greatest number that a count may be.
+const MOST: usize = LIMIT as usize;
 
 /// The range from the lower end of one interval to the upper end of the other, where it is not empty.
 pub fn between(start: Iv, end: Option<Iv>) -> Option<Iv>
@@ -77,4 +84,33 @@ pub fn one_if(b: bool) -> usize
     ensures { result ≡ (if b then 1 else 0) }
 {
     if b { 1 } else { 0 }
+}
+
+/// How many parts are the number: at least the certain ones, at most the possible ones, where all are defined.
+pub fn counted(
+    defined: bool,
+    certain: usize,
+    possible: usize,
+    may_be_undefined: bool,
+) -> Option<Enclosure>
+    requires { certain ≤ possible }
+    ensures { result ≡ within_limits (numeric_enclosure (if defined then Some (record { lo = pos certain; hi = pos possible }) else None) may_be_undefined) }
+{
+    if !defined {
+        return Some(numeric(None, may_be_undefined));
+    }
+    if possible > MOST {
+        return None;
+    }
+    let count = Iv::new(certain as i64, possible as i64);
+    Some(numeric(Some(count), may_be_undefined))
+}
+
+/// Keeps what the part at the place may mean, where it is one of the first.
+pub fn keep(kept: &mut [Enclosure; KEPT], place: usize, x: Enclosure)
+    ensures { kept.new ≡ slice_set kept.old place x }
+{
+    if place < KEPT {
+        kept[place] = x;
+    }
 }

@@ -2,8 +2,8 @@
 use Rattle.std.proofs.Common.{◌≡◌, ℕ, ◌<◌, List, [], ◌∷◌, Bool, true, false, not, ◌&&◌, ◌||◌, Option, Some, None, map, length, refl, sym, ap, ◌∙◌, arith, drop, get_or, drop-cons, add-one, suc, zero, ◌+◌}
 use Rattle.std.proofs.lemmas.Bool.Decides.{nat_tests}
 use Rattle.std.specs.Prelude.{ℤ, pos, negsuc, ◌+ℤ◌, ◌-ℤ◌, ◌*ℤ◌, int_le, nat_lt, ◌^◌, ◌-◌}
-use Rattle.ms_num.specs.Span.{Span, point, is_narrow, add_span, mul_span, sub_span}
-use Rattle.ms_trees.specs.WellFormed.{Checked, well_formed_rule, is_well_formed, is_numeric, is_number, is_truth, are_numbers, are_truths, has_variable, fits, sums_fit, narrow_step, sorted_step, enclosure_of, IsTruth, IsWithin}
+use Rattle.ms_num.specs.Span.{IsWithin, Span, point, is_narrow, add_span, mul_span, sub_span}
+use Rattle.ms_trees.specs.WellFormed.{Checked, well_formed_rule, is_well_formed, is_numeric, is_number, is_truth, are_numbers, are_truths, has_variable, fits, sums_fit, narrow_step, sorted_step, enclosure_of, IsTruth}
 use Rattle.ms_trees.proofs.Parts.{AreNumbers, AreTruths, IsNumber, ListAnd, ListAndTwo, NumberBranches, TruthBranches}
 use Rattle.ms_trees.specs.WellFormed.{checked}
 use Rattle.ms_trees.specs.Laws.{HasVariable}

@@ -4,13 +4,13 @@ use Rattle.std.proofs.lemmas.Int.{ints}
 use Rattle.std.proofs.Math.ListN.{length-map}
 use Rattle.std.specs.Prelude.{ℤ, pos, ◌+ℤ◌, ◌/◌, nat_lt, is_some, if◌then◌else◌}
 use Rattle.ms_num.specs.Numbers.{int_eq}
-use Rattle.ms_num.specs.Span.{is_within}
+use Rattle.ms_num.specs.Span.{IsWithin, is_within}
 use Rattle.ms_trees.specs.Value as v
 use Rattle.ms_trees.specs.Value.{Meaning, value, how_many}
 use Rattle.ms_trees.specs.Extreme.{so_far}
 use Rattle.ms_trees.proofs.Onward.{onward}
 use Rattle.ms_trees.specs.Enclosure.{points}
-use Rattle.ms_trees.specs.WellFormed.{is_well_formed, is_numeric, is_number, are_numbers, checked, IsWithin}
+use Rattle.ms_trees.specs.WellFormed.{is_well_formed, is_numeric, is_number, are_numbers, checked}
 use Rattle.ms_trees.proofs.Parts.{IsNumber}
 use Rattle.ms_trees.specs.declared.tree.Ground.{Ground}
 use Rattle.ms_trees.specs.declared.tree.Ground.TheVariants as g

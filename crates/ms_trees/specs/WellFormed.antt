@@ -1,5 +1,5 @@
 -- Which trees may be asked on a box: those that are well sorted, name its variables alone, and are narrow there.
-use Rattle.std.specs.Prelude.{ℕ, List, [], ◌∷◌, Option, Some, None, Bool, true, false, not, ◌&&◌, ◌≡◌, ℤ, pos, negsuc, ◌≤ℤ◌, ◌^◌, ◌-◌, int_le, length, nat_lt}
+use Rattle.std.specs.Prelude.{ℕ, List, [], ◌∷◌, Option, Some, None, Bool, true, false, not, ◌&&◌, ◌≡◌, pos, int_le, length, nat_lt}
 use Rattle.ms_num.specs.Span.{Span, point, is_narrow, add_span}
 use Rattle.ms_trees.specs.Enclosure.{enclosure, enclosure_step, both_intervals, span_at}
 use Rattle.ms_trees.specs.declared.tree.Enclosure.{Enclosure}
@@ -148,8 +148,3 @@ checked b g = record { fit = is_well_formed b g; numeric = is_numeric g; enclosu
 pub record IsTruth (b : List Span) (x : Ground) : Type 0 where
   pub fit : is_well_formed b x ≡ true
   pub boolean : is_numeric x ≡ false
-
--- the number is within -2^50..2^50
-pub record IsWithin (z : ℤ) : Type 0 where
-  pub low : negsuc (2 ^ 50 - 1) ≤ℤ z
-  pub high : z ≤ℤ pos (2 ^ 50)

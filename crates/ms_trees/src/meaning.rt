@@ -1,13 +1,13 @@
 ghost use Rattle.std.specs.Prelude.{◌≡◌, ◌<◌, IsTrue, IfSome, Some, pos, map, length, drop};
 ghost use Rattle.std.specs.List.{list_any};
 ghost use Rattle.ms_num.specs.Numbers.{add_at};
-ghost use Rattle.ms_num.specs.Span.{point as single};
+ghost use Rattle.ms_num.specs.Span.{IsWithin, point as single};
 ghost use Rattle.ms_trees.specs.Value.{value, folded, extreme, selected, counted, all_true, any_true, first_differs, are_distinct, is_row};
 ghost use Rattle.ms_trees.specs.Enclosure.{enclosure, points};
 ghost use Rattle.ms_trees.specs.Kept.{KeepsNumbers, part};
 ghost use Rattle.ms_trees.specs.Access.{reaches as reached_by};
 ghost use Rattle.ms_trees.specs.Extreme.{extreme_at as operation_of};
-ghost use Rattle.ms_trees.specs.WellFormed.{is_well_formed, are_numbers, are_truths, sums_fit, checked, IsWithin};
+ghost use Rattle.ms_trees.specs.WellFormed.{is_well_formed, are_numbers, are_truths, sums_fit, checked};
 
 use crate::access::{Access, reaches};
 use crate::extreme::Extreme;

@@ -1,7 +1,7 @@
 ghost use Rattle.std.specs.Prelude.{◌≡◌, ◌<◌, ℕ, length, slice_index_or, Option, ◌+ℤ◌, ◌-ℤ◌, ◌*ℤ◌, neg_ℤ, pos, unsigned_abs, if◌then◌else◌};
+ghost use Rattle.ms_num.specs.Span.{IsWithin};
 ghost use Rattle.ms_num.specs.Numbers.{div_at, mod_at, int_eq};
 ghost use Rattle.ms_trees.specs.Value.{iff, int_ne, compare, pair as pair_of, test};
-ghost use Rattle.ms_trees.specs.WellFormed.{IsWithin};
 
 /// The sum, which stays within the limits.
 pub fn sum(x: i64, y: i64) -> i64

@@ -1,10 +1,9 @@
 use Rattle.std.proofs.Common.{◌≡◌, refl, true, sym, w64}
 use Rattle.std.specs.Prelude.{ℤ, pos, int_rem}
 use Rattle.std.proofs.lemmas.Int.{to_z-of_z}
-use Rattle.ms_num.specs.Span.{is_within}
+use Rattle.ms_num.specs.Span.{IsWithin, is_within}
 use Rattle.ms_num.proofs.SharedSpans.{read_within}
 use Rattle.ms_num.proofs.SharedRemainders.{rem_within, mod_at_is}
-use Rattle.ms_trees.specs.WellFormed.{IsWithin}
 use Rattle.ms_trees.proofs.Bools.{and_true, of_le}
 use Rattle.ms_trees.proofs.numbers.remainder.Goals as goal
 

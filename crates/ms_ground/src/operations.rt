@@ -1,15 +1,19 @@
-ghost use Rattle.std.specs.Prelude.{◌≡◌, IsTrue, Bool, Option, Some, None, ◌||◌, pos, is_some, if◌then◌else◌, option_map, not, IfSome};
-ghost use Rattle.ms_num.specs.Span.{IsInterval, add_span, sub_span, mul_span, div_span, mod_span, neg_span, abs_span, join_some, has};
-ghost use Rattle.ms_trees.specs.Value.{iff, imp, xor};
-ghost use Rattle.ms_trees.specs.Enclosure.{numeric_enclosure as numeric_of, boolean_enclosure as boolean_of, both_intervals, both_partial, operation, division, image_enclosure, test_interval, compare_intervals, comparison, combined, meets as meets_of, same_single, may_differ as differ_of, may_be_less as less_of, may_be_at_most as at_most_of, may_be_at_least as at_least_of, may_be_greater as greater_of, bits as bits_of, either_number, either_truth, admitted as admitted_of, may_be_in, is_inside};
-ghost use Rattle.ms_trees.specs.WellFormed.{fits};
+//! What one operation may mean, from what its parts may mean.
+//!
+//! Those on numbers answer `None` exactly where their interval leaves -2^50..2^50.
 
-use ms_num::{Iv, Ranges};
+ghost use Rattle.std.specs.Prelude.{◌≡◌, IsTrue, Some, ◌||◌, false, pos, not};
+ghost use Rattle.ms_num.specs.Span.{add_span, sub_span, mul_span, div_span, mod_span, neg_span, abs_span, join_some, has};
+ghost use Rattle.ms_trees.specs.Value.{iff, imp, xor};
+ghost use Rattle.ms_trees.specs.Enclosure.{numeric_enclosure, boolean_enclosure, both_partial, operation, division, image_enclosure, test_interval, compare_intervals, comparison, combined, meets as meets_of, same_single, may_differ as differ_of, may_be_less as less_of, may_be_at_most as at_most_of, may_be_at_least as at_least_of, may_be_greater as greater_of, bits as bits_of, either_number, either_truth, admitted as admitted_of, may_be_in, is_inside};
+ghost use Rattle.ms_ground.specs.Known.{within_limits};
+
+use ms_num::{Iv, LIMIT, Ranges};
 use ms_trees::Enclosure;
 
 /// What an integer part may mean: an interval of its numbers, if any, and whether it may be undefined.
 pub fn numeric(interval: Option<Iv>, may_be_undefined: bool) -> Enclosure
-    ensures { result ≡ numeric_of interval may_be_undefined }
+    ensures { result ≡ numeric_enclosure interval may_be_undefined }
 {
     Enclosure {
         interval,
@@ -21,7 +25,7 @@ pub fn numeric(interval: Option<Iv>, may_be_undefined: bool) -> Enclosure
 
 /// What a Boolean part may mean: whether it may be true, and whether false.
 pub fn boolean(may_be_true: bool, may_be_false: bool) -> Enclosure
-    ensures { result ≡ boolean_of may_be_true may_be_false }
+    ensures { result ≡ boolean_enclosure may_be_true may_be_false }
 {
     Enclosure {
         interval: None,
@@ -31,45 +35,59 @@ pub fn boolean(may_be_true: bool, may_be_false: bool) -> Enclosure
     }
 }
 
-/// The least interval of the sums, where both have numbers.
-pub fn sum(x: Option<Iv>, y: Option<Iv>) -> Option<Iv>
-    requires { IsTrue (fits (both_intervals add_span x y)) }
-    ensures { result ≡ both_intervals add_span x y }
+/// The enclosure, where its interval does not leave the limits.
+pub fn within(x: Enclosure) -> Option<Enclosure>
+    ensures { result ≡ within_limits x }
 {
-    match (x, y) {
-        (Some(x), Some(y)) => x.add(y),
-        _ => None,
+    match x.interval {
+        Some(interval) => if -LIMIT <= interval.lo() && interval.hi() <= LIMIT {
+            Some(x)
+        } else {
+            None
+        },
+        None => Some(x),
     }
 }
 
-/// The least interval of the differences, where both have numbers.
-pub fn difference(x: Option<Iv>, y: Option<Iv>) -> Option<Iv>
-    requires { IsTrue (fits (both_intervals sub_span x y)) }
-    ensures { result ≡ both_intervals sub_span x y }
+/// What the sum may mean.
+pub fn sum(x: Enclosure, y: Enclosure) -> Option<Enclosure>
+    ensures { result ≡ within_limits (operation add_span x y) }
 {
-    match (x, y) {
-        (Some(x), Some(y)) => x.sub(y),
-        _ => None,
+    let undefined = x.may_be_undefined || y.may_be_undefined;
+    match (x.interval, y.interval) {
+        (Some(x), Some(y)) => Some(numeric(Some(x.add(y)?), undefined)),
+        _ => Some(numeric(None, undefined)),
     }
 }
 
-/// The least interval of the products, where both have numbers.
-pub fn product(x: Option<Iv>, y: Option<Iv>) -> Option<Iv>
-    requires { IsTrue (fits (both_intervals mul_span x y)) }
-    ensures { result ≡ both_intervals mul_span x y }
+/// What the difference may mean.
+pub fn difference(x: Enclosure, y: Enclosure) -> Option<Enclosure>
+    ensures { result ≡ within_limits (operation sub_span x y) }
 {
-    match (x, y) {
-        (Some(x), Some(y)) => x.mul(y),
-        _ => None,
+    let undefined = x.may_be_undefined || y.may_be_undefined;
+    match (x.interval, y.interval) {
+        (Some(x), Some(y)) => Some(numeric(Some(x.sub(y)?), undefined)),
+        _ => Some(numeric(None, undefined)),
+    }
+}
+
+/// What the product may mean.
+pub fn product(x: Enclosure, y: Enclosure) -> Option<Enclosure>
+    ensures { result ≡ within_limits (operation mul_span x y) }
+{
+    let undefined = x.may_be_undefined || y.may_be_undefined;
+    match (x.interval, y.interval) {
+        (Some(x), Some(y)) => Some(numeric(Some(x.mul(y)?), undefined)),
+        _ => Some(numeric(None, undefined)),
     }
 }
 
 /// What the quotient, cut toward zero, may mean; undefined also where the divisor may be 0.
-pub fn quotient(x: Enclosure, y: Enclosure) -> Enclosure
-    ensures { result ≡ division div_span x y }
+pub fn quotient(x: Enclosure, y: Enclosure) -> Option<Enclosure>
+    ensures { result ≡ within_limits (division div_span x y) }
 {
     let undefined = x.may_be_undefined || y.may_be_undefined || may_be_zero(y.interval);
-    numeric(quotients(x.interval, y.interval), undefined)
+    within(numeric(quotients(x.interval, y.interval), undefined))
 }
 
 fn quotients(x: Option<Iv>, y: Option<Iv>) -> Option<Iv>
@@ -82,11 +100,11 @@ fn quotients(x: Option<Iv>, y: Option<Iv>) -> Option<Iv>
 }
 
 /// What the remainder, with the sign of `x`, may mean; undefined also where the divisor may be 0.
-pub fn remainder(x: Enclosure, y: Enclosure) -> Enclosure
-    ensures { result ≡ division mod_span x y }
+pub fn remainder(x: Enclosure, y: Enclosure) -> Option<Enclosure>
+    ensures { result ≡ within_limits (division mod_span x y) }
 {
     let undefined = x.may_be_undefined || y.may_be_undefined || may_be_zero(y.interval);
-    numeric(remainders(x.interval, y.interval), undefined)
+    within(numeric(remainders(x.interval, y.interval), undefined))
 }
 
 fn remainders(x: Option<Iv>, y: Option<Iv>) -> Option<Iv>
@@ -108,65 +126,62 @@ fn may_be_zero(x: Option<Iv>) -> bool
 }
 
 /// What the negation may mean.
-pub fn negated(x: Enclosure) -> Enclosure
-    ensures { result ≡ image_enclosure neg_span x }
+pub fn negation(x: Enclosure) -> Option<Enclosure>
+    ensures { result ≡ within_limits (image_enclosure neg_span x) }
 {
-    let numbers = match x.interval {
-        Some(numbers) => Some(numbers.neg()),
-        None => None,
-    };
-    numeric(numbers, x.may_be_undefined)
+    match x.interval {
+        Some(interval) => within(numeric(Some(interval.neg()), x.may_be_undefined)),
+        None => Some(numeric(None, x.may_be_undefined)),
+    }
 }
 
 /// What the absolute value may mean.
-pub fn magnitude(x: Enclosure) -> Enclosure
-    ensures { result ≡ image_enclosure abs_span x }
+pub fn magnitude(x: Enclosure) -> Option<Enclosure>
+    ensures { result ≡ within_limits (image_enclosure abs_span x) }
 {
-    let numbers = match x.interval {
-        Some(numbers) => Some(numbers.abs()),
-        None => None,
-    };
-    numeric(numbers, x.may_be_undefined)
-}
-
-/// The interval of 1 for true and 0 for false.
-pub fn bits(yes: bool, no: bool) -> Iv
-    requires { IsTrue (yes || no) }
-    ensures { result ≡ bits_of yes no }
-{
-    Iv::new(if no { 0 } else { 1 }, if yes { 1 } else { 0 })
-}
-
-/// The least interval that has both, where each may be missing.
-pub fn join(x: Option<Iv>, y: Option<Iv>) -> Option<Iv>
-    ensures { result ≡ join_some x y }
-{
-    match (x, y) {
-        (Some(x), Some(y)) => Some(x.join(y)),
-        (None, y) => y,
-        (x, None) => x,
+    match x.interval {
+        Some(interval) => within(numeric(Some(interval.abs()), x.may_be_undefined)),
+        None => Some(numeric(None, x.may_be_undefined)),
     }
+}
+
+/// The number of a truth value: 1 for true and 0 for false.
+pub fn bit(x: Enclosure) -> Enclosure
+    requires { IsTrue (x.may_be_true || x.may_be_false) }
+    ensures { result ≡ numeric_enclosure (Some (bits_of x.may_be_true x.may_be_false)) false }
+{
+    numeric(Some(bits(x.may_be_true, x.may_be_false)), false)
+}
+
+fn bits(may_be_true: bool, may_be_false: bool) -> Iv
+    requires { IsTrue (may_be_true || may_be_false) }
+    ensures { result ≡ bits_of may_be_true may_be_false }
+{
+    Iv::new(
+        if may_be_false { 0 } else { 1 },
+        if may_be_true { 1 } else { 0 },
+    )
 }
 
 /// One part more of those that are joined.
 pub fn gather(so_far: Enclosure, x: Enclosure) -> Enclosure
-    ensures { result ≡ numeric_of (join_some so_far.interval x.interval) (so_far.may_be_undefined || x.may_be_undefined) }
+    ensures { result ≡ numeric_enclosure (join_some so_far.interval x.interval) (so_far.may_be_undefined || x.may_be_undefined) }
 {
     numeric(
-        join(so_far.interval, x.interval),
+        Iv::join_some(so_far.interval, x.interval),
         so_far.may_be_undefined || x.may_be_undefined,
     )
 }
 
 /// The branches that the condition admits, of two integer trees.
-pub fn either(condition: Enclosure, x: Enclosure, y: Enclosure) -> Enclosure
-    ensures { result ≡ either_number condition x y }
+pub fn either(condition: Enclosure, x: Enclosure, y: Enclosure) -> Option<Enclosure>
+    ensures { result ≡ within_limits (either_number condition x y) }
 {
     let undefined = condition.may_be_true && x.may_be_undefined
         || condition.may_be_false && y.may_be_undefined;
     let first = admitted(condition.may_be_true, x.interval);
     let second = admitted(condition.may_be_false, y.interval);
-    numeric(join(first, second), undefined)
+    within(numeric(Iv::join_some(first, second), undefined))
 }
 
 fn admitted(condition: bool, x: Option<Iv>) -> Option<Iv>
@@ -183,6 +198,13 @@ pub fn either_of_truths(condition: Enclosure, x: Enclosure, y: Enclosure) -> Enc
         condition.may_be_true && x.may_be_true || condition.may_be_false && y.may_be_true,
         condition.may_be_true && x.may_be_false || condition.may_be_false && y.may_be_false,
     )
+}
+
+/// The truth values of `not x`.
+pub fn denial(x: Enclosure) -> Enclosure
+    ensures { result ≡ boolean_enclosure x.may_be_false x.may_be_true }
+{
+    boolean(x.may_be_false, x.may_be_true)
 }
 
 /// The truth values of `x <-> y`.
@@ -221,32 +243,38 @@ pub fn exclusive(x: Enclosure, y: Enclosure) -> Enclosure
 pub fn equal(x: Enclosure, y: Enclosure) -> Enclosure
     ensures { result ≡ comparison meets_of differ_of x y }
 {
-    let no = x.may_be_undefined || y.may_be_undefined || may_differ(x.interval, y.interval);
-    boolean(meets(x.interval, y.interval), no)
+    let may_be_false = x.may_be_undefined
+        || y.may_be_undefined
+        || may_differ(x.interval, y.interval);
+    boolean(meets(x.interval, y.interval), may_be_false)
 }
 
 /// The truth values of `x != y`.
 pub fn unequal(x: Enclosure, y: Enclosure) -> Enclosure
     ensures { result ≡ comparison differ_of meets_of x y }
 {
-    let no = x.may_be_undefined || y.may_be_undefined || meets(x.interval, y.interval);
-    boolean(may_differ(x.interval, y.interval), no)
+    let may_be_false = x.may_be_undefined || y.may_be_undefined || meets(x.interval, y.interval);
+    boolean(may_differ(x.interval, y.interval), may_be_false)
 }
 
 /// The truth values of `x < y`.
 pub fn less(x: Enclosure, y: Enclosure) -> Enclosure
     ensures { result ≡ comparison less_of at_least_of x y }
 {
-    let no = x.may_be_undefined || y.may_be_undefined || may_be_at_least(x.interval, y.interval);
-    boolean(may_be_less(x.interval, y.interval), no)
+    let may_be_false = x.may_be_undefined
+        || y.may_be_undefined
+        || may_be_at_least(x.interval, y.interval);
+    boolean(may_be_less(x.interval, y.interval), may_be_false)
 }
 
 /// The truth values of `x <= y`.
 pub fn at_most(x: Enclosure, y: Enclosure) -> Enclosure
     ensures { result ≡ comparison at_most_of greater_of x y }
 {
-    let no = x.may_be_undefined || y.may_be_undefined || may_be_greater(x.interval, y.interval);
-    boolean(may_be_at_most(x.interval, y.interval), no)
+    let may_be_false = x.may_be_undefined
+        || y.may_be_undefined
+        || may_be_greater(x.interval, y.interval);
+    boolean(may_be_at_most(x.interval, y.interval), may_be_false)
 }
 
 /// Both have intervals, and these share a number.
@@ -323,7 +351,7 @@ fn are_same(x: Iv, y: Iv) -> bool
 
 /// The truth values of membership.
 pub fn membership(x: Enclosure, ranges: &Ranges) -> Enclosure
-    ensures { result ≡ boolean_of (test_interval (may_be_in ranges.now) x.interval) (x.may_be_undefined || test_interval (λ s. not (is_inside ranges.now s)) x.interval) }
+    ensures { result ≡ boolean_enclosure (test_interval (may_be_in ranges.now) x.interval) (x.may_be_undefined || test_interval (λ s. not (is_inside ranges.now s)) x.interval) }
 {
     match x.interval {
         Some(numbers) => boolean(
@@ -336,7 +364,7 @@ pub fn membership(x: Enclosure, ranges: &Ranges) -> Enclosure
 
 /// The truth values of a table: whether a row fits, and whether the parts may be undefined or something else.
 pub fn tabled(fits: bool, unsure: bool) -> Enclosure
-    ensures { result ≡ boolean_of fits (unsure || not fits) }
+    ensures { result ≡ boolean_enclosure fits (unsure || not fits) }
 {
     boolean(fits, unsure || !fits)
 }
