@@ -24,7 +24,7 @@ lies_within (s ∷ b) [] i h v l = absurd h
 lies_within (s ∷ b) (n ∷ q) i h zero l = record { from = i.0.from n h.0; to = i.0.to n h.0 }
 lies_within (s ∷ b) (n ∷ q) i h (suc v) l = lies_within b q i.1 h.1 v (omega (arith, l))
 
-lies_in : (b : Box) (q : Assignment) → IsProper b → InBox q b → LiesIn q (spans_of b)
+pub lies_in : (b : Box) (q : Assignment) → IsProper b → InBox q b → LiesIn q (spans_of b)
 lies_in b q i h = record { same_length = same_length b q h; within = lies_within b q i h }
 
 -- where a constraint is refuted on a box no assignment of the box meets them all

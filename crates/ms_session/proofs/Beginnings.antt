@@ -32,7 +32,7 @@ ranges_declared (s ∷ ss) r = inl (ranges_is_set (s ∷ ss) r (λ e. absurd (cc
 pub not_empty : (ss : List Span) → false ≡ eqb (length ss) 0 → ss ≢ []
 not_empty ss h e = false≢true (h ∙ ap (λ q. eqb (length q) 0) e)
 
-is_empty : (ss : List Span) → true ≡ eqb (length ss) 0 → ss ≡ []
+pub is_empty : (ss : List Span) → true ≡ eqb (length ss) 0 → ss ≡ []
 is_empty [] h = refl
 is_empty (s ∷ ss) h = absurd (none (length ss) (sym h))
   where

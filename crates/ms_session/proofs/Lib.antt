@@ -2,6 +2,7 @@ pub mod Beginnings
 pub mod PartsOfSets
 pub mod Effects
 pub mod Loops
+pub mod Narrowings
 pub mod Nexts
 pub mod RangeBoxes
 pub mod Rooms

@@ -1,4 +1,7 @@
 -- Scopes as the plain session stores them: what each call keeps, and what it means.
+use Rattle.ms_session.proofs.Narrowings.{box_within_box}
+use Rattle.ms_boxes.proofs.SharedParts.{box_in_sets}
+use Rattle.ms_session.specs.Plain.{CutsWithin}
 use Rattle.std.proofs.Common.{◌≡◌, ℕ, ◌+◌, ◌<◌, suc, refl, sym, ap, ◌∙◌, subst, arith, false, Bool, List, [], ◌∷◌, ◌++◌, length, map, reverse, Option, Some, None, Result, Ok, Err}
 use Rattle.std.specs.Prelude.{All, IfOk, OnErr}
 use Rattle.std.proofs.lemmas.List.{reverse-append, length-reverse}
@@ -16,7 +19,7 @@ use Rattle.ms_session.specs.Scopes.{Scope, scope_after, NodeGives, IsFresh, Open
 use Rattle.ms_boxes.specs.Trees.{Splits, Node, IsConstraint}
 use Rattle.ms_boxes.specs.Nodes.{drops, answers, splits}
 use Rattle.ms_session.specs.Valid.{IsValidSession}
-use Rattle.ms_session.specs.Plain.{IsBoxStep, Cuts}
+use Rattle.ms_session.specs.Plain.{IsBoxStep}
 use Rattle.ms_session.specs.Stored.{Stored, stored_of, scope_of, state_of, frontier_of, AreOpening, IsOpened, answer_of, boxes_after, Applies, KeepsBoxes, IsSound, AreSound}
 use Rattle.ms_boxes.specs.Laws.{Parts}
 use Rattle.ms_boxes.specs.Trees.{ground_trees}
@@ -35,10 +38,18 @@ frontier_last boxes b = ap (map box_of) (reverse-append boxes (b ∷ []))
 
 -- ---- one node
 
-splits_of : (sets : Box) (br : Branching) (cons : List Ground) (b c d : Box) → IsBox sets b → Cuts br cons b c d → Splits sets br cons b c d
-splits_of sets br cons b c d i k = record { narrowed = b; proper = i; within = λ p h. h; keeps = λ p h m. h; several = k.several; none_refuted = k.none_refuted; picks = k.picks }
+splits_of : (sets : Box) (br : Branching) (cons : List Ground) (b c d : Box) → IsBox sets b → CutsWithin br cons b c d → Splits sets br cons b c d
+splits_of sets br cons b c d i k = record {
+  narrowed = k.narrowed;
+  proper = box_within_box sets b k.narrowed i k.narrows.box;
+  within = λ p h. box_in_sets b k.narrowed k.narrows.box p h;
+  keeps = k.narrows.keeps;
+  several = k.cuts.several;
+  none_refuted = k.cuts.none_refuted;
+  picks = k.cuts.picks;
+}
 
-parts_in : (sets : Box) (br : Branching) (cons : List Ground) (b c d : Box) → IsBox sets b → Cuts br cons b c d → Parts ground_trees sets cons b c d
+parts_in : (sets : Box) (br : Branching) (cons : List Ground) (b c d : Box) → IsBox sets b → CutsWithin br cons b c d → Parts ground_trees sets cons b c d
 parts_in sets br cons b c d i k = parts_of ground_trees sets br cons b c d i (splits_of sets br cons b c d i k)
 
 node_taken : (sets : Box) (br : Branching) (cons : List Ground) (b : Ranged) (rest boxes : List Ranged) (taken : BoxStep) → BoxIn sets b → boxes ≡ rest ++ b ∷ [] → IsBoxStep br cons (box_of b) taken → Node sets br cons (frontier_of boxes) (answer_of taken) (frontier_of (boxes_after taken rest))

@@ -10,6 +10,7 @@ use Rattle.ms_session.specs.declared.plain_node.BoxStep.TheVariants.{Dropped, An
 use Rattle.ms_num.specs.Sets.{Set, IsCut, set_size}
 use Rattle.ms_boxes.specs.Boxes.{box_of, Box, box_size, set_at}
 use Rattle.ms_boxes.specs.Branchings.{Picks, is_tried, is_left}
+use Rattle.ms_session.specs.Narrowing.{Narrows}
 use Rattle.ms_boxes.specs.Trees.{HoldsNone, IsOnly, NoneRefuted}
 
 -- of the best variable so far and the next one, that with fewer values, the first where they have as many
@@ -36,8 +37,20 @@ pub record Cuts (br : Branching) (cons : List Ground) (b c d : Box) : Type 0 whe
   pub none_refuted : NoneRefuted cons b
   pub picks : Picks br b c d
 
+-- what one node makes of a box that it narrows no further
+abbrev pub IsNarrowedStep : Branching → List Ground → Box → BoxStep → Type 0
+IsNarrowedStep br cons b Dropped = HoldsNone cons b
+IsNarrowedStep br cons b (Answered p) = IsOnly cons b p
+IsNarrowedStep br cons b (Split c d) = Cuts br cons b (box_of c) (box_of d)
+
+-- the box b, narrowed, and both its parts
+pub record CutsWithin (br : Branching) (cons : List Ground) (b c d : Box) : Type 0 where
+  pub narrowed : Box
+  pub narrows : Narrows cons b narrowed
+  pub cuts : Cuts br cons narrowed c d
+
 -- what one node makes of the box b
 abbrev pub IsBoxStep : Branching → List Ground → Box → BoxStep → Type 0
 IsBoxStep br cons b Dropped = HoldsNone cons b
 IsBoxStep br cons b (Answered p) = IsOnly cons b p
-IsBoxStep br cons b (Split c d) = Cuts br cons b (box_of c) (box_of d)
+IsBoxStep br cons b (Split c d) = CutsWithin br cons b (box_of c) (box_of d)

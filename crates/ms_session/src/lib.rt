@@ -20,13 +20,15 @@
 //! Nothing is promised of how many nodes a search takes below that bound, of its speed, of how much memory it takes,
 //! nor of the current scope after want of memory.
 //!
-//! [`PlainSession`] is a session whose frontiers are lists of boxes, each a list of ranges for each variable. It
-//! narrows nothing: a box is dropped where the hull of a constraint refutes it, and else split.
+//! [`PlainSession`] is a session whose frontiers are lists of boxes, each a list of ranges for each variable. At
+//! each node the set of a variable that an equality says equals a tree is cut to what the tree may mean on the box; then
+//! the box is dropped where the hull of a constraint refutes it, and else split.
 #![tactic(auto)]
 
 mod budget;
 mod cuts;
 mod laws;
+mod narrowing;
 mod nodes;
 mod picks;
 mod plain_node;

@@ -6,9 +6,10 @@ ghost use Rattle.ms_num.specs.Sets.{spans_of};
 ghost use Rattle.ms_boxes.specs.Boxes.{box_size, box_of, IsProper, least_point};
 ghost use Rattle.ms_boxes.specs.Branchings.{is_unfixed as unfixed_in};
 ghost use Rattle.ms_boxes.specs.Trees.{Meets, HoldsNone, IsOnly, NoneRefuted};
-ghost use Rattle.ms_session.specs.Plain.{Halves, MayBeTrue, IsBoxStep};
+ghost use Rattle.ms_session.specs.Plain.{Halves, MayBeTrue, IsBoxStep, IsNarrowedStep};
 
 use crate::cuts::{values_left, values_tried};
+use crate::narrowing::narrow;
 use crate::picks::pick;
 use ms_base::Point;
 use ms_ground::{Branching, Ground, ValueChoice, holds, hull, hull_laws};
@@ -24,8 +25,8 @@ pub enum BoxStep {
     Split(Sets, Sets),
 }
 
-/// Takes one node: a box of one assignment is answered or dropped, and a larger one is dropped where a constraint
-/// is refuted on it, else split.
+/// Takes one node: the box is narrowed by the equalities that name a variable. What is left is answered or dropped
+/// where it has one assignment; a larger one is dropped where a constraint is refuted on it, else split.
 pub fn box_step(
     alloc: Global,
     sets: Sets,
@@ -35,6 +36,24 @@ pub fn box_step(
     requires proper { IsProper (box_of sets) }
     requires fit { All (IsTruth (spans_of (box_of sets))) constraints.now }
     ensures { IfOk result (IsBoxStep branching.now constraints.now (box_of sets)) }
+{
+    hull_laws();
+    match narrow(alloc, sets, constraints)? {
+        Some(narrowed) => narrowed_step(alloc, narrowed, constraints, branching),
+        None => Ok(BoxStep::Dropped),
+    }
+}
+
+// What is made of a box that is narrowed no further.
+fn narrowed_step(
+    alloc: Global,
+    sets: Sets,
+    constraints: &[Ground],
+    branching: &Branching,
+) -> Result<BoxStep, AllocError>
+    requires proper { IsProper (box_of sets) }
+    requires fit { All (IsTruth (spans_of (box_of sets))) constraints.now }
+    ensures { IfOk result (IsNarrowedStep branching.now constraints.now (box_of sets)) }
 {
     match pick(sets.as_slice(), branching) {
         None => match only_answer(alloc, sets.as_slice(), constraints)? {
@@ -114,8 +133,8 @@ fn least(alloc: Global, sets: &[Ranges]) -> Result<Vec<i64>, AllocError>
     Ok(numbers)
 }
 
-// The interval of each set.
-fn spans(alloc: Global, sets: &[Ranges]) -> Result<Vec<Iv>, AllocError>
+/// The interval of each set.
+pub fn spans(alloc: Global, sets: &[Ranges]) -> Result<Vec<Iv>, AllocError>
     requires { IsProper (box_of sets.now) }
     ensures { IfOk result (λ spans. spans.items ≡ spans_of (box_of sets.now)) }
 {

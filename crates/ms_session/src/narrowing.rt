@@ -1,0 +1,136 @@
+ghost use Rattle.std.specs.Prelude.{◌≡◌, ◌&&◌, ℤ, IfOk, IfSome, All, MatchOption};
+ghost use Rattle.ms_num.specs.Span.{has};
+ghost use Rattle.ms_num.specs.Ranges.{is_member, IsRanges};
+ghost use Rattle.ms_trees.specs.declared.tree.Ground.TheVariants.{Var};
+ghost use Rattle.ms_trees.specs.WellFormed.{IsTruth};
+ghost use Rattle.ms_num.specs.Sets.{spans_of};
+ghost use Rattle.ms_boxes.specs.Boxes.{box_of, IsProper};
+ghost use Rattle.ms_boxes.specs.Trees.{HoldsNone};
+ghost use Rattle.ms_session.specs.Narrowing.{Bounds, CutsAway, CutsTo, Narrows, MeetsNone, NarrowsBy};
+
+use crate::plain_node::spans;
+use ms_ground::{Ground, Hull, hull, hull_laws};
+use ms_num::{Iv, Ranges, Sets};
+use std::alloc::{AllocError, Global};
+
+/// A variable, and what the tree may mean that a constraint says it equals.
+#[derive(Clone, Copy, Debug)]
+pub struct Bound {
+    pub variable: u32,
+    pub hull: Hull,
+}
+
+/// Cuts the set of each variable that a constraint says equals a tree to what the tree may mean on the box so far.
+/// Nothing is left where no assignment of the box meets the constraints, as far as that tells.
+pub fn narrow(alloc: Global, sets: Sets, constraints: &[Ground]) -> Result<Option<Sets>, AllocError>
+    requires proper { IsProper (box_of sets) }
+    requires fit { All (IsTruth (spans_of (box_of sets))) constraints.now }
+    ensures { IfOk result (λ narrowed. MatchOption narrowed (HoldsNone constraints.now (box_of sets)) (λ n. Narrows constraints.now (box_of sets) (box_of n))) }
+{
+    hull_laws();
+    let mut current = sets;
+    for constraint in constraints {
+        match narrow_by(alloc, current, constraint)? {
+            Some(narrowed) => current = narrowed,
+            None => return Ok(None),
+        }
+    }
+    Ok(Some(current))
+}
+
+// The same by one constraint.
+fn narrow_by(alloc: Global, sets: Sets, constraint: &Ground) -> Result<Option<Sets>, AllocError>
+    requires proper { IsProper (box_of sets) }
+    requires fit { IsTruth (spans_of (box_of sets)) constraint.now }
+    ensures { IfOk result (λ narrowed. MatchOption narrowed (MeetsNone constraint.now (box_of sets)) (λ n. NarrowsBy constraint.now (box_of sets) (box_of n))) }
+{
+    if !is_equality(constraint) {
+        return Ok(Some(sets));
+    }
+    let spans = spans(alloc, sets.as_slice())?;
+    match bound_of(constraint, &spans) {
+        Some(bound) => cut(alloc, sets, bound),
+        None => Ok(Some(sets)),
+    }
+}
+
+fn is_equality(constraint: &Ground) -> bool {
+    matches!(constraint, Ground::Eq(_, _))
+}
+
+// The bound of a variable that is one part of an equality.
+fn bound_of(constraint: &Ground, spans: &[Iv]) -> Option<Bound>
+    requires { IsTruth spans.now constraint.now }
+    ensures { IfSome result (Bounds spans.now constraint.now) }
+{
+    match left_bound(constraint, spans) {
+        Some(bound) => Some(bound),
+        None => right_bound(constraint, spans),
+    }
+}
+
+fn left_bound(constraint: &Ground, spans: &[Iv]) -> Option<Bound>
+    requires { IsTruth spans.now constraint.now }
+    ensures { IfSome result (Bounds spans.now constraint.now) }
+{
+    hull_laws();
+    match constraint {
+        Ground::Eq(a, b) => {
+            let variable = variable_of(a.get())?;
+            let hull = hull(b.get(), spans);
+            Some(Bound { variable, hull })
+        }
+        _ => None,
+    }
+}
+
+fn right_bound(constraint: &Ground, spans: &[Iv]) -> Option<Bound>
+    requires { IsTruth spans.now constraint.now }
+    ensures { IfSome result (Bounds spans.now constraint.now) }
+{
+    hull_laws();
+    match constraint {
+        Ground::Eq(a, b) => {
+            let variable = variable_of(b.get())?;
+            let hull = hull(a.get(), spans);
+            Some(Bound { variable, hull })
+        }
+        _ => None,
+    }
+}
+
+fn variable_of(tree: &Ground) -> Option<u32>
+    ensures { IfSome result (λ v. tree.now ≡ Var v) }
+{
+    match tree {
+        Ground::Var(v) => Some(*v),
+        _ => None,
+    }
+}
+
+// Cuts the set of the variable to the bound; nothing is left where it has no number there.
+fn cut(alloc: Global, sets: Sets, bound: Bound) -> Result<Option<Sets>, AllocError>
+    requires { IsProper (box_of sets) }
+    ensures { IfOk result (λ cut. MatchOption cut (CutsAway bound (box_of sets)) (λ n. CutsTo bound (box_of sets) (box_of n))) }
+{
+    let at = bound.variable as usize;
+    if at >= sets.as_slice().len() {
+        return Ok(Some(sets));
+    }
+    let kept = between(alloc, &sets.as_slice()[at], bound.hull)?;
+    if kept.ranges().is_empty() {
+        return Ok(None);
+    }
+    let mut cut = sets.into_vec();
+    cut[at] = kept;
+    Ok(Some(Sets::from_vec(cut)))
+}
+
+// The numbers of the set that the tree may mean.
+fn between(alloc: Global, set: &Ranges, hull: Hull) -> Result<Ranges, AllocError>
+    ensures members { IfOk result (λ kept. (z : ℤ) → is_member kept z ≡ (is_member set.now z && has (record { lo = hull.lo; hi = hull.hi }) z)) }
+    ensures proper { IfOk result IsRanges }
+{
+    let above = set.at_least(alloc, hull.lo)?;
+    above.at_most(alloc, hull.hi)
+}
