@@ -130,7 +130,7 @@ fn parts_of_items_stand_where_they_begin(rt: HostRuntime) -> Result<(), Fail> {
                     assert_eq!(rt; at(note.place), (2, 17));
                 }
                 for note in notes.iter() {
-                    assert_eq!(rt; at(note.place), (2, 35));
+                    assert_eq!(rt; at(note.place), (2, 33));
                 }
             }
             _ => assert!(rt; false),
