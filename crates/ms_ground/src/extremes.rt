@@ -21,7 +21,8 @@ pub fn take_more(which: Extreme, best: Option<Enclosure>, x: Enclosure) -> Enclo
     }
 }
 
-fn of_both(which: Extreme, x: Option<Iv>, y: Option<Iv>) -> Option<Iv>
+/// The interval of the one of two numbers, where both parts have one.
+pub fn of_both(which: Extreme, x: Option<Iv>, y: Option<Iv>) -> Option<Iv>
     ensures { result ≡ both_intervals (extreme_span which) x y }
 {
     match (x, y, which) {

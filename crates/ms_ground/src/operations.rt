@@ -153,7 +153,8 @@ pub fn bit(x: Enclosure) -> Enclosure
     numeric(Some(bits(x.may_be_true, x.may_be_false)), false)
 }
 
-fn bits(may_be_true: bool, may_be_false: bool) -> Iv
+/// The interval of 1 for true and 0 for false.
+pub fn bits(may_be_true: bool, may_be_false: bool) -> Iv
     requires { IsTrue (may_be_true || may_be_false) }
     ensures { result ≡ bits_of may_be_true may_be_false }
 {

@@ -70,7 +70,8 @@ pub fn is_unsure(x: Enclosure) -> bool
     x.may_be_undefined || has_several(x.interval)
 }
 
-fn has_several(x: Option<Iv>) -> bool
+/// The interval has two numbers or more.
+pub fn has_several(x: Option<Iv>) -> bool
     ensures { result ≡ test_interval (λ s. int_lt s.lo s.hi) x }
 {
     match x {

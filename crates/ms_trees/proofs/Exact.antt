@@ -9,13 +9,13 @@ use Rattle.ms_trees.specs.Value as v
 use Rattle.ms_trees.specs.Value.{Meaning, value, value_step, bit}
 use Rattle.ms_trees.specs.Enclosure as r
 use Rattle.ms_trees.specs.Enclosure.{enclosure, enclosure_step, points, span_at}
-use Rattle.ms_trees.specs.WellFormed.{Checked, well_formed_rule, is_well_formed, is_numeric, numeric_layer, is_number, is_truth, are_numbers, are_truths}
+use Rattle.ms_trees.specs.WellFormed.{Checked, is_well_formed, is_sorted, sorted_step, narrow_step, enclosure_of, is_numeric, numeric_layer, is_number, is_truth, are_numbers, are_truths}
 use Rattle.ms_trees.specs.declared.tree.Enclosure.{Enclosure}
-use Rattle.ms_trees.specs.declared.tree.Ground.{Ground, map-Ground}
+use Rattle.ms_trees.specs.declared.tree.Ground.{Ground, roll-Ground, map-Ground}
 use Rattle.ms_trees.specs.declared.tree.Ground.TheOpen.{Ground-F, Num, Undef, Var, Add, Sub, Mul, Div, Mod, Neg, Abs, Sum, Least, Greatest, ToInt, Elem, Elem2, Count, IteI, True, False, BVar, And, Or, Not, Iff, Imp, Xor, Eq, Ne, Lt, Le, IteB, In, AllDiff, Table}
 use Rattle.ms_trees.specs.WellFormed.{checked}
-use Rattle.ms_trees.specs.Laws.{of_number, exact}
-use Rattle.ms_trees.proofs.Layers.{induct, twice, fit_roll, fold_at, layer_map, is_numeric_roll}
+use Rattle.ms_trees.specs.Laws.{of_number, exact, MeantPart, NodesMeanThemselves, PointsMeanThemselves, PointsMeanThemselvesOfSorted}
+use Rattle.ms_trees.proofs.Layers.{induct, twice, fit_roll, sorted_roll, fold_at, layer_map, is_numeric_roll}
 use Rattle.ms_trees.proofs.Bools.{and_left, and_right, and_true, ap2, twice_not, lt_flip, le_flip}
 use Rattle.ms_trees.proofs.Points.{spans, add_points, sub_points, mul_points, min_points, max_points, single, exact_operation, exact_neg, exact_abs, exact_folded, exact_extreme, exact_comparison, exact_counted, exact_either, exact_either_truth, exact_in, exact_rowed}
 use Rattle.ms_trees.proofs.Places.{exact_elem, exact_elem2}
@@ -165,7 +165,8 @@ exact_bit_at k n s z e h =
     let both = and_true (int_le (pos 0) s.lo) (int_le s.hi (pos 1)) low high in
     ap (λ s. r.boolean_enclosure (has s (pos 1)) (has s (pos 0))) e ∙ exact_bit z (subst (λ (s : Span). (int_le (pos 0) s.lo && int_le s.hi (pos 1)) ≡ true) e both)
 
-exact_step : (a : List ℤ) (t : Ground-F Child) → well_formed_rule (points a) (map-Ground Child Checked check t) ≡ true →
+-- the limits are not looked at
+exact_step : (a : List ℤ) (t : Ground-F Child) → (sorted_step (points a) (map-Ground Child Checked check t) && true) ≡ true →
     enclosure_step (points a) (map-Ground Child Enclosure reaches t) ≡ exact (numeric_layer t) (value_step a (map-Ground Child Meaning means t))
 exact_step a (Num n) h = refl
 exact_step a Undef h = refl
@@ -219,21 +220,50 @@ exact_step a (In x rs) h =
 exact_step a (AllDiff xs) h = ap r.distinct (number_children xs (and_left (are_numbers (map check xs)) _ h)) ∙ exact_distinct (map means xs)
 exact_step a (Table xs rows) h = ap (r.rowed rows) (number_children xs (and_left (are_numbers (map check xs)) _ h)) ∙ exact_rowed rows (map means xs)
 
-abbrev IsSame : List ℤ → Ground → Type 0
-IsSame a g = is_well_formed (points a) g ≡ true → enclosure (points a) g ≡ exact (is_numeric g) (value a g)
+-- ---- one node
 
-abbrev child : (a : List ℤ) → ((g : Ground) × IsSame a g) → Child
-child a e = record { numeric = is_numeric e.0; fit = is_well_formed (points a) e.0; meaning = value a e.0; enclosure = enclosure (points a) e.0; same = e.1 }
+abbrev child_of : MeantPart → Child
+child_of p = record { numeric = p.numeric; fit = true; meaning = p.meaning; enclosure = exact p.numeric p.meaning; same = λ e. refl }
 
--- on the box of one assignment
-pub reach_on_point : (a : List ℤ) (g : Ground) → IsSame a g
-reach_on_point a = induct (IsSame a) (λ y h.
-    let E : Type 0 = (g : Ground) × IsSame a g in
-    let d = map-Ground E Ground (λ e. e.0) y in
-    let t = map-Ground E Child (child a) y in
-    let fit : well_formed_rule (points a) (map-Ground Child Checked check t) ≡ true = ap (well_formed_rule (points a)) (twice (child a) check y ∙ sym (twice (λ (e : E). e.0) (checked (points a)) y)) ∙ sym (fit_roll (points a) d) ∙ h in
-    fold_at Enclosure (enclosure_step (points a)) (λ (e : E). e.0) y
-    ∙ ap (enclosure_step (points a)) (sym (twice (child a) reaches y))
-    ∙ exact_step a t fit
-    ∙ ap2 exact (layer_map (child a) y ∙ sym (is_numeric_roll (λ (e : E). e.0) y))
-    (ap (value_step a) (twice (child a) means y) ∙ sym (fold_at Meaning (value_step a) (λ (e : E). e.0) y)))
+-- where the parts mean just what they mean, a node does
+pub node_exact : NodesMeanThemselves
+node_exact a t h =
+    let u = map-Ground MeantPart Child child_of t in
+    let s : sorted_step (points a) (map-Ground Child Checked check u) ≡ true = ap (sorted_step (points a)) (twice child_of check t) ∙ h in
+    ap (enclosure_step (points a)) (sym (twice child_of reaches t))
+    ∙ exact_step a u (and_true (sorted_step (points a) (map-Ground Child Checked check u)) true s refl)
+    ∙ ap2 exact (layer_map child_of t) (ap (value_step a) (twice child_of means t))
+
+-- ---- trees
+
+abbrev IsSame : (Ground → Bool) → List ℤ → Ground → Type 0
+IsSame ok a g = ok g ≡ true → enclosure (points a) g ≡ exact (is_numeric g) (value a g)
+
+module _ (ok : Ground → Bool) (a : List ℤ) where
+  abbrev child : ((g : Ground) × IsSame ok a g) → Child
+  child e = record { numeric = is_numeric e.0; fit = ok e.0; meaning = value a e.0; enclosure = enclosure (points a) e.0; same = e.1 }
+
+  abbrev look : Ground → Checked
+  look g = record { fit = ok g; numeric = is_numeric g; enclosure = enclosure (points a) g }
+
+  -- of each test of trees that looks at least at the sorts
+  on_point : ((d : Ground-F Ground) → ok (roll-Ground d) ≡ true → sorted_step (points a) (map-Ground Ground Checked look d) ≡ true) → (g : Ground) → IsSame ok a g
+  on_point sorts = induct (IsSame ok a) (λ y h.
+      let E : Type 0 = (g : Ground) × IsSame ok a g in
+      let d = map-Ground E Ground (λ e. e.0) y in
+      let t = map-Ground E Child child y in
+      let sorted : sorted_step (points a) (map-Ground Child Checked check t) ≡ true = ap (sorted_step (points a)) (twice child check y ∙ sym (twice (λ (e : E). e.0) look y)) ∙ sorts d h in
+      fold_at Enclosure (enclosure_step (points a)) (λ (e : E). e.0) y
+      ∙ ap (enclosure_step (points a)) (sym (twice child reaches y))
+      ∙ exact_step a t (and_true (sorted_step (points a) (map-Ground Child Checked check t)) true sorted refl)
+      ∙ ap2 exact (layer_map child y ∙ sym (is_numeric_roll (λ (e : E). e.0) y))
+      (ap (value_step a) (twice child means y) ∙ sym (fold_at Meaning (value_step a) (λ (e : E). e.0) y)))
+
+-- on the box of one assignment, where the tree is well formed
+pub reach_on_point : PointsMeanThemselves
+reach_on_point a = on_point (is_well_formed (points a)) a (λ d h.
+    and_left (sorted_step (points a) (map-Ground Ground Checked (checked (points a)) d)) (narrow_step (points a) (map-Ground Checked Enclosure enclosure_of (map-Ground Ground Checked (checked (points a)) d))) (sym (fit_roll (points a) d) ∙ h))
+
+-- on the box of one assignment, where the tree is well sorted
+pub sorted_on_point : PointsMeanThemselvesOfSorted
+sorted_on_point a = on_point (is_sorted (points a)) a (λ d h. sym (sorted_roll (points a) d) ∙ h)

@@ -1,7 +1,7 @@
 -- Induction over trees, and the equations of the definitions by layers.
 use Rattle.std.proofs.Common.{◌≡◌, List, [], ◌∷◌, Bool, map, refl, sym, ap, ◌∙◌, subst}
 use Rattle.ms_num.specs.Span.{Span}
-use Rattle.ms_trees.specs.WellFormed.{Checked, well_formed_rule, well_formed_step, is_well_formed, is_numeric, checked_of, numeric_layer}
+use Rattle.ms_trees.specs.WellFormed.{Checked, well_formed_rule, well_formed_step, is_well_formed, is_sorted, sorts_step, sorted_step, sort_checked, is_numeric, checked_of, numeric_layer}
 use Rattle.ms_trees.specs.WellFormed.{checked}
 use Rattle.ms_trees.specs.declared.tree.Ground.{Ground, roll-Ground, map-Ground, ind-Ground, out-Ground, roll-out-Ground, para-roll-Ground, fold-Ground, fold-roll-Ground}
 use Rattle.ms_trees.specs.declared.tree.Ground.TheOpen.{Ground-F, Num, Undef, Var, Add, Sub, Mul, Div, Mod, Neg, Abs, Sum, Least, Greatest, ToInt, Elem, Elem2, Count, IteI, True, False, BVar, And, Or, Not, Iff, Imp, Xor, Eq, Ne, Lt, Le, IteB, In, AllDiff, Table}
@@ -55,6 +55,10 @@ twice f g (Table xs rows) = ap (λ ys. Table ys rows) (list_twice f g xs)
 pub fit_roll : (b : List Span) (d : Ground-F Ground) → is_well_formed b (roll-Ground d) ≡ well_formed_rule b (map-Ground Ground Checked (checked b) d)
 unfolding is_well_formed
 fit_roll b d = para-roll-Ground Bool (well_formed_step b) d ∙ ap (well_formed_rule b) (twice (λ y. (y, is_well_formed b y)) (checked_of b) d)
+
+pub sorted_roll : (b : List Span) (d : Ground-F Ground) → is_sorted b (roll-Ground d) ≡ sorted_step b (map-Ground Ground Checked (sort_checked b) d)
+unfolding is_sorted
+sorted_roll b d = para-roll-Ground Bool (sorts_step b) d ∙ ap (sorted_step b) (twice (λ y. (y, is_sorted b y)) (checked_of b) d)
 
 -- a fold at a node whose parts are given by p
 pub fold_at : (A : Type 0) (step : Ground-F A → A) {E : Type 0} (p : E → Ground) (y : Ground-F E) → fold-Ground A step (roll-Ground (map-Ground E Ground p y)) ≡ step (map-Ground E A (λ e. fold-Ground A step (p e)) y)

@@ -21,3 +21,4 @@ pub mod Distinct
 pub mod Keeping
 pub mod Rowed
 pub mod Onward
+pub mod Selections

@@ -5,16 +5,16 @@ use Rattle.std.specs.Int.Signed.{≤ℤ_refl}
 use Rattle.std.proofs.lemmas.Int.{ints, by_lt_z}
 use Rattle.ms_num.specs.Numbers.{div_at, mod_at}
 use Rattle.ms_num.specs.Span.{Span, Inside, point, has, neg_span, abs_span, add_span, sub_span, mul_span, min_span, max_span, div_span, mod_span}
-use Rattle.ms_trees.specs.Laws.{MeansFewerNumbers, MeansFewerTruths, MeansLess, IsSmaller}
+use Rattle.ms_trees.specs.Laws.{MeansFewerNumbers, MeansFewerTruths, MeansLess, IsSmaller, Part, small_of, large_of, NodesMeanLess, SmallerBoxesMeanLess, SmallerBoxesMeanLessOfSorted}
 use Rattle.ms_trees.specs.Value as v
 use Rattle.ms_trees.specs.Enclosure as r
 use Rattle.ms_trees.specs.Enclosure.{enclosure, enclosure_step, span_at}
-use Rattle.ms_trees.specs.WellFormed.{Checked, well_formed_rule, is_well_formed, is_numeric, numeric_layer, is_number, is_truth, are_numbers, are_truths, has_variable, IsTruth}
+use Rattle.ms_trees.specs.WellFormed.{Checked, is_well_formed, is_sorted, sorted_step, narrow_step, enclosure_of, is_numeric, numeric_layer, is_number, is_truth, are_numbers, are_truths, has_variable, IsTruth}
 use Rattle.ms_trees.specs.WellFormed.{checked}
 use Rattle.ms_trees.specs.declared.tree.Enclosure.{Enclosure}
 use Rattle.ms_trees.specs.declared.tree.Ground.{Ground, roll-Ground, map-Ground}
 use Rattle.ms_trees.specs.declared.tree.Ground.TheOpen.{Ground-F, Num, Undef, Var, Add, Sub, Mul, Div, Mod, Neg, Abs, Sum, Least, Greatest, ToInt, Elem, Elem2, Count, IteI, True, False, BVar, And, Or, Not, Iff, Imp, Xor, Eq, Ne, Lt, Le, IteB, In, AllDiff, Table}
-use Rattle.ms_trees.proofs.Layers.{induct, twice, fit_roll, fold_at, layer_map, is_numeric_roll}
+use Rattle.ms_trees.proofs.Layers.{induct, twice, fit_roll, sorted_roll, fold_at, layer_map, is_numeric_roll}
 use Rattle.ms_trees.proofs.Bools.{and_left, and_right, and_true, and_less, or_left, or_right, or_split, or_swap, or_less, le_of, of_le}
 use Rattle.ms_trees.proofs.Fits.{variable}
 use Rattle.ms_trees.proofs.Lists.{AllLess, has_grows}
@@ -186,7 +186,8 @@ branches c p q n h =
     let two = and_left (is_truth (check c) && p) q all in
     record { condition = truth_child c (and_left (is_truth (check c)) p two); then_part = and_right (is_truth (check c)) p two; else_part = and_right (is_truth (check c) && p) q all }
 
-less_step : (b b' : List Span) → IsSmaller b b' → (t : Ground-F Child) → well_formed_rule b' (map-Ground Child Checked check t) ≡ true →
+-- the limits are not looked at
+less_step : (b b' : List Span) → IsSmaller b b' → (t : Ground-F Child) → (sorted_step b' (map-Ground Child Checked check t) && true) ≡ true →
     MeansLess (numeric_layer t) (enclosure_step b (map-Ground Child Enclosure smalls t)) (enclosure_step b' (map-Ground Child Enclosure larges t))
 less_step b b' sm (Num n) h = record { some = refl; interval = point_inside n; may_be_undefined = λ e. e }
 less_step b b' sm Undef h = record { some = refl; interval = tt; may_be_undefined = λ e. e }
@@ -250,25 +251,58 @@ less_step b b' sm (In x rs) h = in_less rs x.small x.large (number_child x (and_
 less_step b b' sm (AllDiff xs) h = distinct_less (map smalls xs) (map larges xs) (number_children xs (and_left (are_numbers (map check xs)) _ h))
 less_step b b' sm (Table xs rows) h = rowed_less rows (map smalls xs) (map larges xs) (number_children xs (and_left (are_numbers (map check xs)) _ h))
 
-abbrev pub IsLess : List Span → List Span → Ground → Type 0
-IsLess b b' g = is_well_formed b' g ≡ true → MeansLess (is_numeric g) (enclosure b g) (enclosure b' g)
+-- ---- one node
 
-abbrev child : (b b' : List Span) → ((g : Ground) × IsLess b b' g) → Child
-child b b' e = record { numeric = is_numeric e.0; fit = is_well_formed b' e.0; small = enclosure b e.0; large = enclosure b' e.0; less = e.1 }
+abbrev child_of : Part → Child
+child_of p = record { numeric = p.numeric; fit = true; small = p.small; large = p.large; less = λ e. p.less }
 
--- on a smaller box
-pub reach_on_smaller : (b b' : List Span) → IsSmaller b b' → (g : Ground) → IsLess b b' g
-reach_on_smaller b b' sm = induct (IsLess b b') (λ y h.
-    let E : Type 0 = (g : Ground) × IsLess b b' g in
-    let d = map-Ground E Ground (λ e. e.0) y in
-    let t = map-Ground E Child (child b b') y in
-    let fit : well_formed_rule b' (map-Ground Child Checked check t) ≡ true = ap (well_formed_rule b') (twice (child b b') check y ∙ sym (twice (λ (e : E). e.0) (checked b') y)) ∙ sym (fit_roll b' d) ∙ h in
-    let s : enclosure_step b (map-Ground Child Enclosure smalls t) ≡ enclosure b (roll-Ground d) = ap (enclosure_step b) (twice (child b b') smalls y) ∙ sym (fold_at Enclosure (enclosure_step b) (λ (e : E). e.0) y) in
-    let l : enclosure_step b' (map-Ground Child Enclosure larges t) ≡ enclosure b' (roll-Ground d) = ap (enclosure_step b') (twice (child b b') larges y) ∙ sym (fold_at Enclosure (enclosure_step b') (λ (e : E). e.0) y) in
-    let n : numeric_layer t ≡ is_numeric (roll-Ground d) = layer_map (child b b') y ∙ sym (is_numeric_roll (λ (e : E). e.0) y) in
-    subst (λ q. MeansLess (is_numeric (roll-Ground d)) (enclosure b (roll-Ground d)) q) l (subst (λ q. MeansLess (is_numeric (roll-Ground d)) q (enclosure_step b' (map-Ground Child Enclosure larges t))) s (subst (λ q. MeansLess q (enclosure_step b (map-Ground Child Enclosure smalls t)) (enclosure_step b' (map-Ground Child Enclosure larges t))) n (less_step b b' sm t fit))))
+-- where the parts mean less, a node means less
+pub node_less : NodesMeanLess
+node_less b b' sm t h =
+    let u = map-Ground Part Child child_of t in
+    let s : sorted_step b' (map-Ground Child Checked check u) ≡ true = ap (sorted_step b') (twice child_of check t) ∙ h in
+    let n : numeric_layer u ≡ numeric_layer t = layer_map child_of t in
+    let small : enclosure_step b (map-Ground Child Enclosure smalls u) ≡ enclosure_step b (map-Ground Part Enclosure small_of t) = ap (enclosure_step b) (twice child_of smalls t) in
+    let large : enclosure_step b' (map-Ground Child Enclosure larges u) ≡ enclosure_step b' (map-Ground Part Enclosure large_of t) = ap (enclosure_step b') (twice child_of larges t) in
+    moved n small large (less_step b b' sm u (and_true (sorted_step b' (map-Ground Child Checked check u)) true s refl))
+  where
+    moved : {k l : Bool} {p q x y : Enclosure} → k ≡ l → p ≡ q → x ≡ y → MeansLess k p x → MeansLess l q y
+    moved {k} {l} {p} {q} {x} {y} e f g m = subst (λ z. MeansLess l q z) g (subst (λ z. MeansLess l z x) f (subst (λ z. MeansLess z p x) e m))
 
--- a fit tree means something
+-- ---- trees
+
+abbrev pub IsLess : (Ground → Bool) → List Span → List Span → Ground → Type 0
+IsLess ok b b' g = ok g ≡ true → MeansLess (is_numeric g) (enclosure b g) (enclosure b' g)
+
+module _ (ok : Ground → Bool) (b b' : List Span) where
+  abbrev child : ((g : Ground) × IsLess ok b b' g) → Child
+  child e = record { numeric = is_numeric e.0; fit = ok e.0; small = enclosure b e.0; large = enclosure b' e.0; less = e.1 }
+
+  abbrev look : Ground → Checked
+  look g = record { fit = ok g; numeric = is_numeric g; enclosure = enclosure b' g }
+
+  -- of each test of trees that looks at least at the sorts
+  on_smaller : IsSmaller b b' → ((d : Ground-F Ground) → ok (roll-Ground d) ≡ true → sorted_step b' (map-Ground Ground Checked look d) ≡ true) → (g : Ground) → IsLess ok b b' g
+  on_smaller sm sorts = induct (IsLess ok b b') (λ y h.
+      let E : Type 0 = (g : Ground) × IsLess ok b b' g in
+      let d = map-Ground E Ground (λ e. e.0) y in
+      let t = map-Ground E Child child y in
+      let sorted : sorted_step b' (map-Ground Child Checked check t) ≡ true = ap (sorted_step b') (twice child check y ∙ sym (twice (λ (e : E). e.0) look y)) ∙ sorts d h in
+      let s : enclosure_step b (map-Ground Child Enclosure smalls t) ≡ enclosure b (roll-Ground d) = ap (enclosure_step b) (twice child smalls y) ∙ sym (fold_at Enclosure (enclosure_step b) (λ (e : E). e.0) y) in
+      let l : enclosure_step b' (map-Ground Child Enclosure larges t) ≡ enclosure b' (roll-Ground d) = ap (enclosure_step b') (twice child larges y) ∙ sym (fold_at Enclosure (enclosure_step b') (λ (e : E). e.0) y) in
+      let n : numeric_layer t ≡ is_numeric (roll-Ground d) = layer_map child y ∙ sym (is_numeric_roll (λ (e : E). e.0) y) in
+      subst (λ q. MeansLess (is_numeric (roll-Ground d)) (enclosure b (roll-Ground d)) q) l (subst (λ q. MeansLess (is_numeric (roll-Ground d)) q (enclosure_step b' (map-Ground Child Enclosure larges t))) s (subst (λ q. MeansLess q (enclosure_step b (map-Ground Child Enclosure smalls t)) (enclosure_step b' (map-Ground Child Enclosure larges t))) n (less_step b b' sm t (and_true (sorted_step b' (map-Ground Child Checked check t)) true sorted refl)))))
+
+-- on a smaller box, where the tree is well formed
+pub reach_on_smaller : SmallerBoxesMeanLess
+reach_on_smaller b b' sm = on_smaller (is_well_formed b') b b' sm (λ d h.
+    and_left (sorted_step b' (map-Ground Ground Checked (checked b') d)) (narrow_step b' (map-Ground Checked Enclosure enclosure_of (map-Ground Ground Checked (checked b') d))) (sym (fit_roll b' d) ∙ h))
+
+-- on a smaller box, where the tree is well sorted
+pub sorted_on_smaller : SmallerBoxesMeanLessOfSorted
+sorted_on_smaller b b' sm = on_smaller (is_sorted b') b b' sm (λ d h. sym (sorted_roll b' d) ∙ h)
+
+-- a well formed tree means something
 pub reach_proper : (b : List Span) (g : Ground) → is_well_formed b g ≡ true → MeansLess (is_numeric g) (enclosure b g) (enclosure b g)
 reach_proper b = reach_on_smaller b b (record { inside = λ v h. record { lo = ≤ℤ_refl (span_at b v).lo; proper = h.proper; hi = ≤ℤ_refl (span_at b v).hi } })
 

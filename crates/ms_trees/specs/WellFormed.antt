@@ -140,6 +140,16 @@ well_formed_step b x = well_formed_rule b (map-Ground (Ground × Bool) Checked (
 unfoldable pub is_well_formed : List Span → Ground → Bool
 is_well_formed b = para-Ground Bool (well_formed_step b)
 
+-- the tree is well sorted and names variables of the box alone; its limits are not looked at
+abbrev pub sorts_step : List Span → Ground-F (Ground × Bool) → Bool
+sorts_step b x = sorted_step b (map-Ground (Ground × Bool) Checked (checked_of b) x)
+
+unfoldable pub is_sorted : List Span → Ground → Bool
+is_sorted b = para-Ground Bool (sorts_step b)
+
+abbrev pub sort_checked : List Span → Ground → Checked
+sort_checked b g = record { fit = is_sorted b g; numeric = is_numeric g; enclosure = enclosure b g }
+
 -- what a rule on the parts of a node is given
 abbrev pub checked : List Span → Ground → Checked
 checked b g = record { fit = is_well_formed b g; numeric = is_numeric g; enclosure = enclosure b g }

@@ -1,4 +1,4 @@
-ghost use Rattle.ms_trees.specs.Laws.{SmallerBoxesMeanLess, PointsMeanThemselves, SmallerBoxesStayWellFormed, RefutedMeansUnmet, SetsMeetWhereTheyShare, SetsHoldWhereNoneIsOutside, EndsDecideRoom};
+ghost use Rattle.ms_trees.specs.Laws.{SmallerBoxesMeanLess, PointsMeanThemselves, SmallerBoxesStayWellFormed, RefutedMeansUnmet, SetsMeetWhereTheyShare, SetsHoldWhereNoneIsOutside, EndsDecideRoom, SmallerBoxesMeanLessOfSorted, PointsMeanThemselvesOfSorted, NodesMeanLess, NodesMeanThemselves, SelectionIsOfOnePlace, NoPlaceSelectsNothing};
 
 /// Does nothing: its contract has the laws of what a tree may mean.
 pub fn hull_laws()
@@ -6,6 +6,21 @@ pub fn hull_laws()
     ensures single { PointsMeanThemselves }
     ensures well_formed { SmallerBoxesStayWellFormed }
     ensures refuted { RefutedMeansUnmet }
+{}
+
+/// Does nothing: its contract has the laws of what one node may mean, whatever its limits, and those of trees that are
+/// well sorted.
+pub fn node_laws()
+    ensures step { NodesMeanLess }
+    ensures exact { NodesMeanThemselves }
+    ensures smaller { SmallerBoxesMeanLessOfSorted }
+    ensures single { PointsMeanThemselvesOfSorted }
+{}
+
+/// Does nothing: its contract says which element an index takes.
+pub fn selection_law()
+    ensures one { SelectionIsOfOnePlace }
+    ensures none { NoPlaceSelectsNothing }
 {}
 
 /// Does nothing: its contract says by numbers when a number may be in a set, and when it may be outside.

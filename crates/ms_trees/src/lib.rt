@@ -18,7 +18,9 @@
 //! a box is false on each assignment of the box. The second says by numbers when an interval may be in a set of ranges,
 //! and when outside. The third says of a list whose numbers have to be distinct that no range of integers is too
 //! narrow for the parts that lie within it exactly where no range between ends of parts is. The converses of the
-//! first laws are not promised: an interval may have numbers that never come.
+//! first laws are not promised: an interval may have numbers that never come. [`node_laws`] has the same of one node, from
+//! what its parts may mean, and of trees that are well sorted, whatever their limits; [`selection_law`] says which element
+//! an index takes.
 //!
 //! A copy equals its source, and want of memory is its only error. [`size`] and [`nesting`] are exact up to
 //! 2^64 - 1, and take no memory. Nothing is promised of a tree's sorts or variables: that is for `specs/Fit` to ask.
@@ -42,7 +44,7 @@ pub use branching::{Branching, Order, ValueChoice};
 pub use copies::copy_trees;
 pub use extreme::Extreme;
 pub use kept::KEPT;
-pub use laws::{hull_laws, membership_law, room_law};
+pub use laws::{hull_laws, membership_law, node_laws, room_law, selection_law};
 pub use meaning::{holds, value_at};
 pub use nodes::{nesting, size};
 pub use table::{Row, Rows};
