@@ -4,16 +4,21 @@ use Rattle.ms_session.specs.declared.plain_node.BoxStep.{BoxStep}
 use Rattle.ms_session.specs.declared.plain_node.BoxStep.TheVariants.{Dropped, Answered, Split}
 use Rattle.ms_session.specs.Plain.{IsBoxStep, IsNarrowedStep}
 use Rattle.ms_boxes.proofs.SharedParts.{box_in_sets}
+use Rattle.std.specs.Prelude.{int_lt, not, IfSome}
+use Rattle.ms_num.proofs.Cuts.{lt_from}
+use Rattle.ms_session.specs.declared.narrowing.Relation.{Relation}
+use Rattle.ms_session.specs.declared.narrowing.Relation.TheVariants.{Equal, AtMost, Less, AtLeast, Greater}
+use Rattle.ms_session.specs.Narrowing.{relates, is_kept, IsTied}
+use Rattle.std.proofs.Common.{false}
 use Rattle.std.proofs.Common.{◌≢◌, inl, if◌then◌else◌, Result, Ok, Err}
 use Rattle.std.specs.Prelude.{IfOk, MatchOption}
 use Rattle.std.proofs.lemmas.Bool.{false≢true}
 use Rattle.std.proofs.lemmas.List.{map-set}
 use Rattle.std.specs.declared.alloc.AllocError.{AllocError}
 use Rattle.ms_num.specs.Sets.{span_of, declared_span, declared_spans}
-use Rattle.ms_num.proofs.SharedMembers.{has_of}
 use Rattle.ms_trees.specs.WellFormed.{IsTruth}
 use Rattle.ms_trees.proofs.Parts.{AreNumbers}
-use Rattle.ms_trees.proofs.Fits.{fit-Eq}
+use Rattle.ms_trees.proofs.Fits.{fit-Eq, fit-Le, fit-Lt}
 use Rattle.ms_boxes.specs.Boxes.{Each, IsDeclared, set_at, box_of}
 use Rattle.ms_boxes.proofs.SharedCutting.{cut_box, cut_is_box}
 use Rattle.ms_boxes.proofs.SharedFitting.{lies_in, box_proper, fit_on_box}
@@ -25,7 +30,7 @@ use Rattle.std.specs.Int.Signed.{≤ℤ_refl}
 use Rattle.std.proofs.lemmas.Int.{ints}
 use Rattle.std.proofs.Math.ListN.{length-map}
 use Rattle.ms_num.specs.Numbers.{int_eq}
-use Rattle.ms_num.specs.Span.{Span, Has, Inside, point, has}
+use Rattle.ms_num.specs.Span.{Span, Has, Inside, point}
 use Rattle.ms_num.specs.Sets.{IsCut, set_of, spans_of}
 use Rattle.ms_num.specs.Ranges.{IsRanges, is_member}
 use Rattle.ms_num.proofs.SharedSpans.{le_from, of_le, and_left, and_right}
@@ -42,7 +47,7 @@ use Rattle.ms_trees.specs.Laws.{IsCoveredBy, MeansLess, MeansFewerNumbers, IsSma
 use Rattle.ms_boxes.specs.Boxes.{Assignment, Box, InBox, IsBox, IsProper, number_at}
 use Rattle.ms_boxes.specs.Trees.{Holds, Meets, HoldsNone}
 use Rattle.ms_session.specs.declared.narrowing.Bound.{Bound}
-use Rattle.ms_session.specs.Narrowing.{IsBounded, Bounds, CutsTo, Narrows, NarrowsBy, MeetsNone}
+use Rattle.ms_session.specs.Narrowing.{Bounds, CutsTo, Narrows, NarrowsBy, MeetsNone}
 
 -- the interval, where there is one, has the number
 abbrev HasIn : Option Span → ℤ → Type 0
@@ -77,22 +82,18 @@ hull_has (Some s) r z h = record { from = h.from; to = h.to }
 value_at_layer : (p : Assignment) (t : Ground) (d : F.Ground-F Ground) → out-Ground t ≡ d → value p t ≡ value_step p (map-Ground Ground Meaning (value p) d)
 value_at_layer p t d e = fold_out-Ground Meaning (value_step p) t ∙ ap (λ z. value_step p (map-Ground Ground Meaning (value p) z)) e
 
--- what two equal numbers are
-record AreEqual (m n : Option ℤ) : Type 0 where
-  number : ℤ
-  left : m ≡ Some number
-  right : n ≡ Some number
+-- what two numbers are that are compared
+record AreCompared (f : ℤ → ℤ → Bool) (m n : Option ℤ) : Type 0 where
+  first : ℤ
+  second : ℤ
+  left : m ≡ Some first
+  right : n ≡ Some second
+  passes : f first second ≡ true
 
-eq_from : (x y : ℤ) → int_eq x y ≡ true → x ≡ y
-eq_from x y h = let a = le_from x y (and_left (int_le x y) (int_le y x) h) in let b = le_from y x (and_right (int_le x y) (int_le y x) h) in omega (arith, ints, a, b)
-
-equal_numbers : (m n : Option ℤ) → compare int_eq m n ≡ true → AreEqual m n
-equal_numbers None n h = absurd (cc)
-equal_numbers (Some x) None h = absurd (cc)
-equal_numbers (Some x) (Some y) h = record { number = x; left = refl; right = ap (λ z. Some z) (sym (eq_from x y h)) }
-
-holds_equal : (p : Assignment) (x y : Ground) → Holds p (g.Eq x y) → AreEqual (value p x).number (value p y).number
-holds_equal p x y h = equal_numbers (value p x).number (value p y).number (sym (ap (λ (m : Meaning). m.truth) (value_at_layer p (g.Eq x y) (F.Eq x y) (g.outs-Eq x y))) ∙ h)
+compared : (f : ℤ → ℤ → Bool) (m n : Option ℤ) → compare f m n ≡ true → AreCompared f m n
+compared f None n h = absurd (cc)
+compared f (Some x) None h = absurd (cc)
+compared f (Some x) (Some y) h = record { first = x; second = y; left = refl; right = refl; passes = h }
 
 variable_value : (p : Assignment) (v : ℕ) → (value p (g.Var v)).number ≡ Some (number_at p v)
 variable_value p v = ap (λ (m : Meaning). m.number) (value_at_layer p (g.Var v) (F.Var v) (g.outs-Var v))
@@ -100,19 +101,67 @@ variable_value p v = ap (λ (m : Meaning). m.number) (value_at_layer p (g.Var v)
 some_is : (x y : ℤ) → Some x ≡ Some y → x ≡ y
 some_is x y e = cc
 
-pub left_bounds : SmallerBoxesMeanLess → PointsMeanThemselves → SmallerBoxesStayWellFormed → (b : List Span) (x y : Ground) (v : ℕ) (h : Hull) → is_well_formed b y ≡ true → is_numeric y ≡ true → x ≡ g.Var v → h ≡ hull_of (enclosure b y) → Bounds b (g.Eq x y) (record { variable = v; hull = h })
-left_bounds less same stays b x y v h wf num is e p i holds =
-    let both = holds_equal p x y holds in
-    let z : both.number ≡ number_at p v = some_is both.number (number_at p v) (sym both.left ∙ ap (λ t. (value p t).number) is ∙ variable_value p v) in
-    let lies = hull_has (enclosure b y).interval (enclosure b y) both.number (number_within less same stays b p i y wf num both.number both.right) in
-    subst (λ q. Has (record { lo = q.lo; hi = q.hi }) (number_at p v)) (sym e) (subst (Has (record { lo = (hull_of (enclosure b y)).lo; hi = (hull_of (enclosure b y)).hi })) z lies)
+eq_from : (x y : ℤ) → int_eq x y ≡ true → x ≡ y
+eq_from x y h = let a = le_from x y (and_left (int_le x y) (int_le y x) h) in let b = le_from y x (and_right (int_le x y) (int_le y x) h) in omega (arith, ints, a, b)
 
-pub right_bounds : SmallerBoxesMeanLess → PointsMeanThemselves → SmallerBoxesStayWellFormed → (b : List Span) (x y : Ground) (v : ℕ) (h : Hull) → is_well_formed b x ≡ true → is_numeric x ≡ true → y ≡ g.Var v → h ≡ hull_of (enclosure b x) → Bounds b (g.Eq x y) (record { variable = v; hull = h })
-right_bounds less same stays b x y v h wf num is e p i holds =
-    let both = holds_equal p x y holds in
-    let z : both.number ≡ number_at p v = some_is both.number (number_at p v) (sym both.right ∙ ap (λ t. (value p t).number) is ∙ variable_value p v) in
-    let lies = hull_has (enclosure b x).interval (enclosure b x) both.number (number_within less same stays b p i x wf num both.number both.left) in
-    subst (λ q. Has (record { lo = q.lo; hi = q.hi }) (number_at p v)) (sym e) (subst (Has (record { lo = (hull_of (enclosure b x)).lo; hi = (hull_of (enclosure b x)).hi })) z lies)
+not_equal : (x y : ℤ) → (x ≡ y → ⊥) → not (int_eq x y) ≡ true
+not_equal x y never = by_test (int_eq x y) refl
+  where
+    by_test : (t : Bool) → int_eq x y ≡ t → not (int_eq x y) ≡ true
+    by_test true e = absurd (never (eq_from x y e))
+    by_test false e = ap not e
+
+and_true : (a b : Bool) → a ≡ true → b ≡ true → (a && b) ≡ true
+and_true a b e f = ap (λ x. x && b) e ∙ f
+
+-- a number that is so related to one between the ends is kept
+related_kept : (relation : Relation) (h : Hull) (x y : ℤ) → Has (record { lo = h.lo; hi = h.hi }) y → relates relation x y ≡ true → is_kept relation h x ≡ true
+related_kept Equal h x y i e = let s = eq_from x y e in let a = i.from in let b = i.to in and_true (int_le h.lo x) (int_le x h.hi) (of_le h.lo x (omega (arith, ints, s, a))) (of_le x h.hi (omega (arith, ints, s, b)))
+related_kept AtMost h x y i e = let l = le_from x y e in let b = i.to in of_le x h.hi (omega (arith, ints, l, b))
+related_kept Less h x y i e = let l = lt_from x y e in let b = i.to in and_true (int_le x h.hi) (not (int_eq x h.hi)) (of_le x h.hi (omega (arith, ints, l, b))) (not_equal x h.hi (λ s. omega (arith, ints, l, b, s)))
+related_kept AtLeast h x y i e = let l = le_from y x e in let a = i.from in of_le h.lo x (omega (arith, ints, l, a))
+related_kept Greater h x y i e = let l = lt_from y x e in let a = i.from in and_true (int_le h.lo x) (not (int_eq x h.lo)) (of_le h.lo x (omega (arith, ints, l, a))) (not_equal x h.lo (λ s. omega (arith, ints, l, a, s)))
+
+pub tied_by : SmallerBoxesMeanLess → PointsMeanThemselves → SmallerBoxesStayWellFormed → (b : List Span) (part tree : Ground) (v : ℕ) (relation : Relation) (h : Hull) → is_well_formed b tree ≡ true → is_numeric tree ≡ true → part ≡ g.Var v → h ≡ hull_of (enclosure b tree) → IsTied b part relation tree (record { variable = v; relation = relation; hull = h })
+tied_by less same stays b part tree v relation h wf num is e p i x y px ty r =
+    let z : number_at p v ≡ x = some_is (number_at p v) x (sym (variable_value p v) ∙ sym (ap (λ t. (value p t).number) is) ∙ px) in
+    let lies = hull_has (enclosure b tree).interval (enclosure b tree) y (number_within less same stays b p i tree wf num y ty) in
+    let lies_h : Has (record { lo = h.lo; hi = h.hi }) y = subst (λ q. Has (record { lo = q.lo; hi = q.hi }) y) (sym e) lies in
+    subst (λ n. is_kept relation h n ≡ true) (sym z) (related_kept relation h x y lies_h r)
+
+-- the two parts of a constraint are so related where it holds
+record AreRelated (relation : Relation) (m n : Option ℤ) : Type 0 where
+  first : ℤ
+  second : ℤ
+  left : m ≡ Some first
+  right : n ≡ Some second
+  related : relates relation first second ≡ true
+
+bounds_from : (spans : List Span) (t part tree : Ground) (relation : Relation) (o : Option Bound) → ((p : Assignment) → Holds p t → AreRelated relation (value p part).number (value p tree).number) → IfSome o (IsTied spans part relation tree) → IfSome o (Bounds spans t)
+bounds_from spans t part tree relation None h k = tt
+bounds_from spans t part tree relation (Some bound) h k = λ p i holds. let r = h p holds in k p i r.first r.second r.left r.right r.related
+
+same_eq : (x y : ℤ) → int_eq x y ≡ true → int_eq y x ≡ true
+same_eq x y h = and_true (int_le y x) (int_le x y) (and_right (int_le x y) (int_le y x) h) (and_left (int_le x y) (int_le y x) h)
+
+module _ (spans : List Span) (t x y : Ground) (o : Option Bound) where
+  pub eq_left : t ≡ g.Eq x y → IfSome o (IsTied spans x Equal y) → IfSome o (Bounds spans t)
+  eq_left e = bounds_from spans t x y Equal o (λ p h. let c = compared int_eq (value p x).number (value p y).number (sym (ap (λ (m : Meaning). m.truth) (ap (value p) e ∙ value_at_layer p (g.Eq x y) (F.Eq x y) (g.outs-Eq x y))) ∙ h) in record { first = c.first; second = c.second; left = c.left; right = c.right; related = c.passes })
+
+  pub eq_right : t ≡ g.Eq x y → IfSome o (IsTied spans y Equal x) → IfSome o (Bounds spans t)
+  eq_right e = bounds_from spans t y x Equal o (λ p h. let c = compared int_eq (value p x).number (value p y).number (sym (ap (λ (m : Meaning). m.truth) (ap (value p) e ∙ value_at_layer p (g.Eq x y) (F.Eq x y) (g.outs-Eq x y))) ∙ h) in record { first = c.second; second = c.first; left = c.right; right = c.left; related = same_eq c.first c.second c.passes })
+
+  pub le_left : t ≡ g.Le x y → IfSome o (IsTied spans x AtMost y) → IfSome o (Bounds spans t)
+  le_left e = bounds_from spans t x y AtMost o (λ p h. let c = compared int_le (value p x).number (value p y).number (sym (ap (λ (m : Meaning). m.truth) (ap (value p) e ∙ value_at_layer p (g.Le x y) (F.Le x y) (g.outs-Le x y))) ∙ h) in record { first = c.first; second = c.second; left = c.left; right = c.right; related = c.passes })
+
+  pub le_right : t ≡ g.Le x y → IfSome o (IsTied spans y AtLeast x) → IfSome o (Bounds spans t)
+  le_right e = bounds_from spans t y x AtLeast o (λ p h. let c = compared int_le (value p x).number (value p y).number (sym (ap (λ (m : Meaning). m.truth) (ap (value p) e ∙ value_at_layer p (g.Le x y) (F.Le x y) (g.outs-Le x y))) ∙ h) in record { first = c.second; second = c.first; left = c.right; right = c.left; related = c.passes })
+
+  pub lt_left : t ≡ g.Lt x y → IfSome o (IsTied spans x Less y) → IfSome o (Bounds spans t)
+  lt_left e = bounds_from spans t x y Less o (λ p h. let c = compared int_lt (value p x).number (value p y).number (sym (ap (λ (m : Meaning). m.truth) (ap (value p) e ∙ value_at_layer p (g.Lt x y) (F.Lt x y) (g.outs-Lt x y))) ∙ h) in record { first = c.first; second = c.second; left = c.left; right = c.right; related = c.passes })
+
+  pub lt_right : t ≡ g.Lt x y → IfSome o (IsTied spans y Greater x) → IfSome o (Bounds spans t)
+  lt_right e = bounds_from spans t y x Greater o (λ p h. let c = compared int_lt (value p x).number (value p y).number (sym (ap (λ (m : Meaning). m.truth) (ap (value p) e ∙ value_at_layer p (g.Lt x y) (F.Lt x y) (g.outs-Lt x y))) ∙ h) in record { first = c.second; second = c.first; left = c.right; right = c.left; related = c.passes })
 
 -- a proper box is one within itself
 pub box_self : (b : Box) → IsProper b → IsBox b b
@@ -127,7 +176,13 @@ box_within_box (d ∷ sets) [] n i j = absurd i
 box_within_box (d ∷ sets) (s ∷ b) [] i j = absurd j
 box_within_box (d ∷ sets) (s ∷ b) (t ∷ n) i j = (j.0, λ z h. i.1 z (j.1 z h), box_within_box sets b n i.2 j.2)
 
--- both parts of an equality that is well-formed are so, and are numbers
+pub ordered_parts : (b : List Span) (t x y : Ground) → t ≡ g.Le x y → is_well_formed b t ≡ true → AreNumbers b x y
+ordered_parts b t x y e h = fit-Le b x y (ap (is_well_formed b) (sym e) ∙ h)
+
+pub strict_parts : (b : List Span) (t x y : Ground) → t ≡ g.Lt x y → is_well_formed b t ≡ true → AreNumbers b x y
+strict_parts b t x y e h = fit-Lt b x y (ap (is_well_formed b) (sym e) ∙ h)
+
+-- both parts of a comparison that is well-formed are so, and are numbers
 pub equal_parts : (b : List Span) (t x y : Ground) → t ≡ g.Eq x y → is_well_formed b t ≡ true → AreNumbers b x y
 equal_parts b t x y e h = fit-Eq b x y (ap (is_well_formed b) (sym e) ∙ h)
 
@@ -139,30 +194,21 @@ in_box_at (s ∷ b) v [] l i = absurd i
 in_box_at (s ∷ b) zero (n ∷ p) l i = i.0
 in_box_at (s ∷ b) (suc v) (n ∷ p) l i = in_box_at b v p (omega (arith, l)) i.1
 
-abbrev hull_span : Bound → Span
-hull_span bound = record { lo = bound.hull.lo; hi = bound.hull.hi }
-
-bounded_has : (bound : Bound) (p : Assignment) → IsBounded bound p → has (hull_span bound) (number_at p bound.variable) ≡ true
-bounded_has bound p h = has_of (hull_span bound) (number_at p bound.variable) h.from h.to
-
-both_true : (a b : Bool) → a ≡ true → b ≡ true → (a && b) ≡ true
-both_true a b e f = ap (λ x. x && b) e ∙ f
-
-pub cut_away : (sets : List (List Span)) (bound : Bound) (r kept : List Span) → bound.variable < length sets → r ≡ slice_index_or sets bound.variable r → ((z : ℤ) → is_member kept z ≡ (is_member r z && has (hull_span bound) z)) → kept ≡ [] → CutsAway bound (box_of sets)
+pub cut_away : (sets : List (List Span)) (bound : Bound) (r kept : List Span) → bound.variable < length sets → r ≡ slice_index_or sets bound.variable r → ((z : ℤ) → is_member kept z ≡ (is_member r z && is_kept bound.relation bound.hull z)) → kept ≡ [] → CutsAway bound (box_of sets)
 cut_away sets bound r kept l e m none p i h =
     let n = number_at p bound.variable in
     let inside : is_member r n ≡ true = ap (λ s. s.has n) (set_read sets bound.variable r l e) ∙ in_box_at (box_of sets) bound.variable p (box_within sets bound.variable l) i in
-    let member : is_member kept n ≡ true = m n ∙ both_true (is_member r n) (has (hull_span bound) n) inside (bounded_has bound p h) in
+    let member : is_member kept n ≡ true = m n ∙ and_true (is_member r n) (is_kept bound.relation bound.hull n) inside h in
     false≢true (sym (ap (λ q. is_member q n) none) ∙ member)
 
-pub cut_to : (sets n : List (List Span)) (bound : Bound) (r kept : List Span) → bound.variable < length sets → r ≡ slice_index_or sets bound.variable r → IsProper (box_of sets) → ((z : ℤ) → is_member kept z ≡ (is_member r z && has (hull_span bound) z)) → IsRanges kept → kept ≢ [] → n ≡ slice_set sets bound.variable kept → CutsTo bound (box_of sets) (box_of n)
+pub cut_to : (sets n : List (List Span)) (bound : Bound) (r kept : List Span) → bound.variable < length sets → r ≡ slice_index_or sets bound.variable r → IsProper (box_of sets) → ((z : ℤ) → is_member kept z ≡ (is_member r z && is_kept bound.relation bound.hull z)) → IsRanges kept → kept ≢ [] → n ≡ slice_set sets bound.variable kept → CutsTo bound (box_of sets) (box_of n)
 cut_to sets n bound r kept l e proper m ranges some is = subst (CutsTo bound (box_of sets)) (sym (ap box_of is ∙ map-set set_of sets bound.variable kept)) (record {
   box = cut_is_box keep (box_of sets) (box_of sets) bound.variable (set_of kept) (box_self (box_of sets) proper) within cut;
-  keeps = λ p i h. (cut_box keep (box_of sets) bound.variable (set_of kept) within cut).back p i (bounded_has bound p h);
+  keeps = λ p i h. (cut_box keep (box_of sets) bound.variable (set_of kept) within cut).back p i h;
 })
   where
     keep : ℤ → Bool
-    keep = has (hull_span bound)
+    keep = is_kept bound.relation bound.hull
 
     within : bound.variable < length (box_of sets)
     within = box_within sets bound.variable l

@@ -21,8 +21,8 @@
 //! nor of the current scope after want of memory.
 //!
 //! [`PlainSession`] is a session whose frontiers are lists of boxes, each a list of ranges for each variable. At
-//! each node the set of a variable that an equality says equals a tree is cut to what the tree may mean on the box; then
-//! the box is dropped where the hull of a constraint refutes it, and else split.
+//! each node the set of a variable that an equality or an order ties to a tree is cut by what the tree may mean on the
+//! box; then the box is dropped where the hull of a constraint refutes it, and else split.
 #![tactic(auto)]
 
 mod budget;

@@ -1,26 +1,36 @@
-ghost use Rattle.std.specs.Prelude.{◌≡◌, ◌&&◌, ℤ, IfOk, IfSome, All, MatchOption};
-ghost use Rattle.ms_num.specs.Span.{has};
+ghost use Rattle.std.specs.Prelude.{◌≡◌, ◌&&◌, ℤ, true, IfOk, IfSome, All, MatchOption};
 ghost use Rattle.ms_num.specs.Ranges.{is_member, IsRanges};
 ghost use Rattle.ms_trees.specs.declared.tree.Ground.TheVariants.{Var};
-ghost use Rattle.ms_trees.specs.WellFormed.{IsTruth};
+ghost use Rattle.ms_trees.specs.WellFormed.{IsTruth, is_well_formed, is_numeric};
 ghost use Rattle.ms_num.specs.Sets.{spans_of};
 ghost use Rattle.ms_boxes.specs.Boxes.{box_of, IsProper};
 ghost use Rattle.ms_boxes.specs.Trees.{HoldsNone};
-ghost use Rattle.ms_session.specs.Narrowing.{Bounds, CutsAway, CutsTo, Narrows, MeetsNone, NarrowsBy};
+ghost use Rattle.ms_session.specs.Narrowing.{is_kept, IsTied, Bounds, CutsAway, CutsTo, Narrows, MeetsNone, NarrowsBy};
 
 use crate::plain_node::spans;
 use ms_ground::{Ground, Hull, hull, hull_laws};
 use ms_num::{Iv, Ranges, Sets};
 use std::alloc::{AllocError, Global};
 
-/// A variable, and what the tree may mean that a constraint says it equals.
+/// How a constraint ties a variable to a tree.
+#[derive(Clone, Copy, Debug)]
+pub enum Relation {
+    Equal,
+    AtMost,
+    Less,
+    AtLeast,
+    Greater,
+}
+
+/// A variable, how a constraint ties it to a tree, and what the tree may mean.
 #[derive(Clone, Copy, Debug)]
 pub struct Bound {
     pub variable: u32,
+    pub relation: Relation,
     pub hull: Hull,
 }
 
-/// Cuts the set of each variable that a constraint says equals a tree to what the tree may mean on the box so far.
+/// Cuts the set of each variable that an equality or an order ties to a tree, by what the tree may mean on the box so far.
 /// Nothing is left where no assignment of the box meets the constraints, as far as that tells.
 pub fn narrow(alloc: Global, sets: Sets, constraints: &[Ground]) -> Result<Option<Sets>, AllocError>
     requires proper { IsProper (box_of sets) }
@@ -44,7 +54,7 @@ fn narrow_by(alloc: Global, sets: Sets, constraint: &Ground) -> Result<Option<Se
     requires fit { IsTruth (spans_of (box_of sets)) constraint.now }
     ensures { IfOk result (λ narrowed. MatchOption narrowed (MeetsNone constraint.now (box_of sets)) (λ n. NarrowsBy constraint.now (box_of sets) (box_of n))) }
 {
-    if !is_equality(constraint) {
+    if !is_comparison(constraint) {
         return Ok(Some(sets));
     }
     let spans = spans(alloc, sets.as_slice())?;
@@ -54,11 +64,14 @@ fn narrow_by(alloc: Global, sets: Sets, constraint: &Ground) -> Result<Option<Se
     }
 }
 
-fn is_equality(constraint: &Ground) -> bool {
-    matches!(constraint, Ground::Eq(_, _))
+fn is_comparison(constraint: &Ground) -> bool {
+    matches!(
+        constraint,
+        Ground::Eq(_, _) | Ground::Le(_, _) | Ground::Lt(_, _)
+    )
 }
 
-// The bound of a variable that is one part of an equality.
+// The bound of a variable that is one part of a comparison.
 fn bound_of(constraint: &Ground, spans: &[Iv]) -> Option<Bound>
     requires { IsTruth spans.now constraint.now }
     ensures { IfSome result (Bounds spans.now constraint.now) }
@@ -73,13 +86,10 @@ fn left_bound(constraint: &Ground, spans: &[Iv]) -> Option<Bound>
     requires { IsTruth spans.now constraint.now }
     ensures { IfSome result (Bounds spans.now constraint.now) }
 {
-    hull_laws();
     match constraint {
-        Ground::Eq(a, b) => {
-            let variable = variable_of(a.get())?;
-            let hull = hull(b.get(), spans);
-            Some(Bound { variable, hull })
-        }
+        Ground::Eq(a, b) => tied(a.get(), Relation::Equal, b.get(), spans),
+        Ground::Le(a, b) => tied(a.get(), Relation::AtMost, b.get(), spans),
+        Ground::Lt(a, b) => tied(a.get(), Relation::Less, b.get(), spans),
         _ => None,
     }
 }
@@ -88,15 +98,28 @@ fn right_bound(constraint: &Ground, spans: &[Iv]) -> Option<Bound>
     requires { IsTruth spans.now constraint.now }
     ensures { IfSome result (Bounds spans.now constraint.now) }
 {
-    hull_laws();
     match constraint {
-        Ground::Eq(a, b) => {
-            let variable = variable_of(b.get())?;
-            let hull = hull(a.get(), spans);
-            Some(Bound { variable, hull })
-        }
+        Ground::Eq(a, b) => tied(b.get(), Relation::Equal, a.get(), spans),
+        Ground::Le(a, b) => tied(b.get(), Relation::AtLeast, a.get(), spans),
+        Ground::Lt(a, b) => tied(b.get(), Relation::Greater, a.get(), spans),
         _ => None,
     }
+}
+
+// The bound of a part that is a variable, by the other part.
+fn tied(part: &Ground, relation: Relation, tree: &Ground, spans: &[Iv]) -> Option<Bound>
+    requires fit { is_well_formed spans.now tree.now ≡ true }
+    requires number { is_numeric tree.now ≡ true }
+    ensures { IfSome result (IsTied spans.now part.now relation tree.now) }
+{
+    hull_laws();
+    let variable = variable_of(part)?;
+    let hull = hull(tree, spans);
+    Some(Bound {
+        variable,
+        relation,
+        hull,
+    })
 }
 
 fn variable_of(tree: &Ground) -> Option<u32>
@@ -117,7 +140,7 @@ fn cut(alloc: Global, sets: Sets, bound: Bound) -> Result<Option<Sets>, AllocErr
     if at >= sets.as_slice().len() {
         return Ok(Some(sets));
     }
-    let kept = between(alloc, &sets.as_slice()[at], bound.hull)?;
+    let kept = kept_of(alloc, &sets.as_slice()[at], bound)?;
     if kept.ranges().is_empty() {
         return Ok(None);
     }
@@ -126,11 +149,26 @@ fn cut(alloc: Global, sets: Sets, bound: Bound) -> Result<Option<Sets>, AllocErr
     Ok(Some(Sets::from_vec(cut)))
 }
 
-// The numbers of the set that the tree may mean.
-fn between(alloc: Global, set: &Ranges, hull: Hull) -> Result<Ranges, AllocError>
-    ensures members { IfOk result (λ kept. (z : ℤ) → is_member kept z ≡ (is_member set.now z && has (record { lo = hull.lo; hi = hull.hi }) z)) }
+// The numbers of the set that pass.
+fn kept_of(alloc: Global, set: &Ranges, bound: Bound) -> Result<Ranges, AllocError>
+    ensures members { IfOk result (λ kept. (z : ℤ) → is_member kept z ≡ (is_member set.now z && is_kept bound.relation bound.hull z)) }
     ensures proper { IfOk result IsRanges }
 {
-    let above = set.at_least(alloc, hull.lo)?;
-    above.at_most(alloc, hull.hi)
+    let (lo, hi) = (bound.hull.lo, bound.hull.hi);
+    match bound.relation {
+        Relation::Equal => {
+            let above = set.at_least(alloc, lo)?;
+            above.at_most(alloc, hi)
+        }
+        Relation::AtMost => set.at_most(alloc, hi),
+        Relation::Less => {
+            let below = set.at_most(alloc, hi)?;
+            below.without(alloc, hi)
+        }
+        Relation::AtLeast => set.at_least(alloc, lo),
+        Relation::Greater => {
+            let above = set.at_least(alloc, lo)?;
+            above.without(alloc, lo)
+        }
+    }
 }

@@ -25,8 +25,9 @@ pub enum BoxStep {
     Split(Sets, Sets),
 }
 
-/// Takes one node: the box is narrowed by the equalities that name a variable. What is left is answered or dropped
-/// where it has one assignment; a larger one is dropped where a constraint is refuted on it, else split.
+/// Takes one node: the box is narrowed by the equalities and orders of which a variable is one part. What is left is
+/// answered or dropped where it has one assignment; a larger box is dropped where a constraint is refuted on it, else
+/// split.
 pub fn box_step(
     alloc: Global,
     sets: Sets,

@@ -16,7 +16,7 @@ use std::marker::Model;
 
 /// A session that keeps the frontier of each scope as a list of boxes, and copies the sets of a box that it splits.
 ///
-/// At each node it cuts the sets of variables that are one part of an equality; a box is dropped where the hull of a
+/// At each node it cuts the sets of variables that are one part of an equality or an order; a box is dropped where the hull of a
 /// constraint refutes it.
 #[derive(Drop)]
 pub struct PlainSession {

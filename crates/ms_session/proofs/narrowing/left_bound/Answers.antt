@@ -1,14 +1,29 @@
-use Rattle.std.proofs.Common.{sym, ap, ◌∙◌, subst}
-use Rattle.ms_trees.specs.Enclosure.{enclosure, hull_of}
-use Rattle.ms_session.specs.Narrowing.{Bounds}
-use Rattle.ms_session.proofs.Narrowings.{equal_parts, left_bounds}
+use Rattle.ms_session.proofs.Narrowings.{equal_parts, ordered_parts, strict_parts, eq_left, le_left, lt_left}
 use Rattle.ms_session.proofs.narrowing.left_bound.Goals as goal
 
-pub hull-hull-requires : goal.hull-hull-requires
-hull-hull-requires c = rw c.get-in-Eq.ensures (equal_parts c.args.spans.now c.args.constraint.now c.in-Eq.a c.in-Eq.b c.in-Eq.is c.requires.fit).right
+pub tied-requires-clause-fit : goal.tied-requires-clause-fit
+tied-requires-clause-fit c = rw c.get-in-Eq.ensures (equal_parts c.args.spans.now c.args.constraint.now c.in-Eq.a c.in-Eq.b c.in-Eq.is c.requires.fit).right
 
-pub returns-in_ok-variable-in-Eq : goal.returns-in_ok-variable-in-Eq
-returns-in_ok-variable-in-Eq c =
-    let parts = equal_parts c.args.spans.now c.args.constraint.now c.in-Eq.a c.in-Eq.b c.in-Eq.is c.requires.fit in
-    subst (λ t. Bounds c.args.spans.now t (record { variable = c.in_ok-variable-in-Eq.variable; hull = c.hull-hull.result })) (sym c.in-Eq.is)
-    (left_bounds c.hull_laws.ensures.smaller c.hull_laws.ensures.single c.hull_laws.ensures.well_formed c.args.spans.now c.in-Eq.a c.in-Eq.b c.in_ok-variable-in-Eq.variable c.hull-hull.result parts.right parts.right_numeric (sym c.get.ensures ∙ c.in_ok-variable-in-Eq.ensures) (c.hull-hull.ensures ∙ ap (λ t. hull_of (enclosure c.args.spans.now t)) c.get-in-Eq.ensures))
+pub tied-requires-clause-number : goal.tied-requires-clause-number
+tied-requires-clause-number c = rw c.get-in-Eq.ensures (equal_parts c.args.spans.now c.args.constraint.now c.in-Eq.a c.in-Eq.b c.in-Eq.is c.requires.fit).right_numeric
+
+pub returns-in-Eq : goal.returns-in-Eq
+returns-in-Eq c = eq_left c.args.spans.now c.args.constraint.now c.in-Eq.a c.in-Eq.b c.tied.result c.in-Eq.is (rw (c.get.ensures, c.get-in-Eq.ensures) at c.tied.ensures)
+
+pub tied-requires-in-Le-clause-fit : goal.tied-requires-in-Le-clause-fit
+tied-requires-in-Le-clause-fit c = rw c.get-in-Le-2.ensures (ordered_parts c.args.spans.now c.args.constraint.now c.in-Le.a c.in-Le.b c.in-Le.is c.requires.fit).right
+
+pub tied-requires-in-Le-clause-number : goal.tied-requires-in-Le-clause-number
+tied-requires-in-Le-clause-number c = rw c.get-in-Le-2.ensures (ordered_parts c.args.spans.now c.args.constraint.now c.in-Le.a c.in-Le.b c.in-Le.is c.requires.fit).right_numeric
+
+pub returns-in-Le : goal.returns-in-Le
+returns-in-Le c = le_left c.args.spans.now c.args.constraint.now c.in-Le.a c.in-Le.b c.tied-in-Le.result c.in-Le.is (rw (c.get-in-Le.ensures, c.get-in-Le-2.ensures) at c.tied-in-Le.ensures)
+
+pub tied-requires-in-Lt-clause-fit : goal.tied-requires-in-Lt-clause-fit
+tied-requires-in-Lt-clause-fit c = rw c.get-in-Lt-2.ensures (strict_parts c.args.spans.now c.args.constraint.now c.in-Lt.a c.in-Lt.b c.in-Lt.is c.requires.fit).right
+
+pub tied-requires-in-Lt-clause-number : goal.tied-requires-in-Lt-clause-number
+tied-requires-in-Lt-clause-number c = rw c.get-in-Lt-2.ensures (strict_parts c.args.spans.now c.args.constraint.now c.in-Lt.a c.in-Lt.b c.in-Lt.is c.requires.fit).right_numeric
+
+pub returns-in-Lt : goal.returns-in-Lt
+returns-in-Lt c = lt_left c.args.spans.now c.args.constraint.now c.in-Lt.a c.in-Lt.b c.tied-in-Lt.result c.in-Lt.is (rw (c.get-in-Lt.ensures, c.get-in-Lt-2.ensures) at c.tied-in-Lt.ensures)

@@ -4,8 +4,8 @@ use Rattle.ms_boxes.specs.Boxes.{box_of}
 use Rattle.ms_session.proofs.Narrowings.{box_self, narrowed_by}
 use Rattle.ms_session.proofs.narrowing.narrow_by.Goals as goal
 
-pub returns-then-not-is_equality : goal.returns-then-not-is_equality
-returns-then-not-is_equality c = record { box = box_self (box_of c.args.sets) c.requires.proper; keeps = λ p i h. i }
+pub returns-then-not-is_comparison : goal.returns-then-not-is_comparison
+returns-then-not-is_comparison c = record { box = box_self (box_of c.args.sets) c.requires.proper; keeps = λ p i h. i }
 
 pub returns : goal.returns
 returns c = record { box = box_self (box_of c.args.sets) c.requires.proper; keeps = λ p i h. i }
