@@ -11,5 +11,5 @@ mod pcg_words;
 mod words;
 
 pub use list_words::ListWords;
-pub use pcg_words::{PcgWords, pcg, twice};
+pub use pcg_words::{PcgWords, pcg};
 pub use words::Words;

@@ -31,14 +31,6 @@ pub fn pcg(seed: u64) -> PcgWords
     }
 }
 
-/// The same seed gives the same words: the two sources have one state.
-pub fn twice(seed: u64) -> (PcgWords, PcgWords)
-    ensures state { result.0 ≡ seeded seed }
-    ensures same { result.0 ≡ result.1 }
-{
-    (pcg(seed), pcg(seed))
-}
-
 impl Words for PcgWords {
     ghost state = { λ words. words };
 
@@ -71,7 +63,8 @@ mod tests {
             (u64::MAX, [2553256318, 1362994822, 3759657484, 3366838333]),
         ];
         for (seed, want) in cases {
-            let (mut words, mut again) = twice(seed);
+            let mut words = pcg(seed);
+            let mut again = pcg(seed);
             assert_eq!(rt; four(&mut words), want, "at seed {seed}");
             assert_eq!(rt; four(&mut again), want, "at seed {seed} again");
         }
