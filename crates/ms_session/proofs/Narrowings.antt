@@ -9,6 +9,7 @@ use Rattle.ms_num.proofs.Cuts.{lt_from}
 use Rattle.ms_session.specs.declared.narrowing.Relation.{Relation}
 use Rattle.ms_session.specs.declared.narrowing.Relation.TheVariants.{Equal, AtMost, Less, AtLeast, Greater}
 use Rattle.ms_session.specs.Narrowing.{relates, is_kept, IsTied}
+use Rattle.ms_ground.specs.Known.{known}
 use Rattle.std.proofs.Common.{false}
 use Rattle.std.proofs.Common.{◌≢◌, inl, if◌then◌else◌, Result, Ok, Err}
 use Rattle.std.specs.Prelude.{IfOk, MatchOption}
@@ -267,3 +268,7 @@ stepped br cons b n (Ok step) so h = by_step step h
     by_step Dropped none = λ p i m. none p (so.keeps p i m) m
     by_step (Answered p) only = record { inside = box_in_sets b n so.box p only.inside; meets = only.meets; alone = λ q i m. only.alone q (so.keeps q i m) m }
     by_step (Split c d) cuts = record { narrowed = n; narrows = so; cuts = cuts }
+
+-- the enclosure of a well-formed tree, read from the sets of a proper box
+pub enclosed : (b : Box) (t : Ground) (o : Option Enclosure) → IsProper b → o ≡ known (is_well_formed (declared_spans b) t) (enclosure (declared_spans b) t) → is_well_formed (spans_of b) t ≡ true → o ≡ Some (enclosure (spans_of b) t)
+enclosed b t o i e h = e ∙ ap (λ s. known (is_well_formed s t) (enclosure s t)) (declared_same b i) ∙ ap (λ q. known q (enclosure (spans_of b) t)) h

@@ -7,9 +7,9 @@ ghost use Rattle.ms_boxes.specs.Boxes.{box_of, IsProper};
 ghost use Rattle.ms_boxes.specs.Trees.{HoldsNone};
 ghost use Rattle.ms_session.specs.Narrowing.{is_kept, IsTied, Bounds, CutsAway, CutsTo, Narrows, MeetsNone, NarrowsBy};
 
-use crate::plain_node::spans;
-use ms_ground::{Ground, Hull, hull, hull_laws};
-use ms_num::{Iv, Ranges, Sets};
+use crate::plain_node::hull_on;
+use ms_ground::{Ground, Hull, hull_laws};
+use ms_num::{Ranges, Sets};
 use std::alloc::{AllocError, Global};
 
 /// How a constraint ties a variable to a tree.
@@ -57,8 +57,7 @@ fn narrow_by(alloc: Global, sets: Sets, constraint: &Ground) -> Result<Option<Se
     if !is_comparison(constraint) {
         return Ok(Some(sets));
     }
-    let spans = spans(alloc, sets.as_slice())?;
-    match bound_of(constraint, &spans) {
+    match bound_of(constraint, sets.as_slice()) {
         Some(bound) => cut(alloc, sets, bound),
         None => Ok(Some(sets)),
     }
@@ -72,49 +71,53 @@ fn is_comparison(constraint: &Ground) -> bool {
 }
 
 // The bound of a variable that is one part of a comparison.
-fn bound_of(constraint: &Ground, spans: &[Iv]) -> Option<Bound>
-    requires { IsTruth spans.now constraint.now }
-    ensures { IfSome result (Bounds spans.now constraint.now) }
+fn bound_of(constraint: &Ground, sets: &[Ranges]) -> Option<Bound>
+    requires proper { IsProper (box_of sets.now) }
+    requires fit { IsTruth (spans_of (box_of sets.now)) constraint.now }
+    ensures { IfSome result (Bounds (spans_of (box_of sets.now)) constraint.now) }
 {
-    match left_bound(constraint, spans) {
+    match left_bound(constraint, sets) {
         Some(bound) => Some(bound),
-        None => right_bound(constraint, spans),
+        None => right_bound(constraint, sets),
     }
 }
 
-fn left_bound(constraint: &Ground, spans: &[Iv]) -> Option<Bound>
-    requires { IsTruth spans.now constraint.now }
-    ensures { IfSome result (Bounds spans.now constraint.now) }
+fn left_bound(constraint: &Ground, sets: &[Ranges]) -> Option<Bound>
+    requires proper { IsProper (box_of sets.now) }
+    requires fit { IsTruth (spans_of (box_of sets.now)) constraint.now }
+    ensures { IfSome result (Bounds (spans_of (box_of sets.now)) constraint.now) }
 {
     match constraint {
-        Ground::Eq(a, b) => tied(a.get(), Relation::Equal, b.get(), spans),
-        Ground::Le(a, b) => tied(a.get(), Relation::AtMost, b.get(), spans),
-        Ground::Lt(a, b) => tied(a.get(), Relation::Less, b.get(), spans),
+        Ground::Eq(a, b) => tied(a.get(), Relation::Equal, b.get(), sets),
+        Ground::Le(a, b) => tied(a.get(), Relation::AtMost, b.get(), sets),
+        Ground::Lt(a, b) => tied(a.get(), Relation::Less, b.get(), sets),
         _ => None,
     }
 }
 
-fn right_bound(constraint: &Ground, spans: &[Iv]) -> Option<Bound>
-    requires { IsTruth spans.now constraint.now }
-    ensures { IfSome result (Bounds spans.now constraint.now) }
+fn right_bound(constraint: &Ground, sets: &[Ranges]) -> Option<Bound>
+    requires proper { IsProper (box_of sets.now) }
+    requires fit { IsTruth (spans_of (box_of sets.now)) constraint.now }
+    ensures { IfSome result (Bounds (spans_of (box_of sets.now)) constraint.now) }
 {
     match constraint {
-        Ground::Eq(a, b) => tied(b.get(), Relation::Equal, a.get(), spans),
-        Ground::Le(a, b) => tied(b.get(), Relation::AtLeast, a.get(), spans),
-        Ground::Lt(a, b) => tied(b.get(), Relation::Greater, a.get(), spans),
+        Ground::Eq(a, b) => tied(b.get(), Relation::Equal, a.get(), sets),
+        Ground::Le(a, b) => tied(b.get(), Relation::AtLeast, a.get(), sets),
+        Ground::Lt(a, b) => tied(b.get(), Relation::Greater, a.get(), sets),
         _ => None,
     }
 }
 
 // The bound of a part that is a variable, by the other part.
-fn tied(part: &Ground, relation: Relation, tree: &Ground, spans: &[Iv]) -> Option<Bound>
-    requires fit { is_well_formed spans.now tree.now ≡ true }
+fn tied(part: &Ground, relation: Relation, tree: &Ground, sets: &[Ranges]) -> Option<Bound>
+    requires proper { IsProper (box_of sets.now) }
+    requires fit { is_well_formed (spans_of (box_of sets.now)) tree.now ≡ true }
     requires number { is_numeric tree.now ≡ true }
-    ensures { IfSome result (IsTied spans.now part.now relation tree.now) }
+    ensures { IfSome result (IsTied (spans_of (box_of sets.now)) part.now relation tree.now) }
 {
     hull_laws();
     let variable = variable_of(part)?;
-    let hull = hull(tree, spans);
+    let hull = hull_on(tree, sets);
     Some(Bound {
         variable,
         relation,

@@ -1,7 +1,7 @@
 ghost use Rattle.std.specs.Prelude.{◌≡◌, ◌↔◌, ◌<◌, true, All, Any, IsTrue, IfOk, MatchBool, MatchOption, length};
-ghost use Rattle.ms_trees.specs.WellFormed.{IsTruth};
+ghost use Rattle.ms_trees.specs.WellFormed.{IsTruth, is_well_formed};
 ghost use Rattle.ms_trees.specs.Laws.{Refuted};
-ghost use Rattle.ms_trees.specs.Enclosure.{points};
+ghost use Rattle.ms_trees.specs.Enclosure.{points, enclosure, hull_of};
 ghost use Rattle.ms_num.specs.Sets.{spans_of};
 ghost use Rattle.ms_boxes.specs.Boxes.{box_size, box_of, IsProper, least_point};
 ghost use Rattle.ms_boxes.specs.Branchings.{is_unfixed as unfixed_in};
@@ -12,8 +12,8 @@ use crate::cuts::{values_left, values_tried};
 use crate::narrowing::narrow;
 use crate::picks::pick;
 use ms_base::Point;
-use ms_ground::{Branching, Ground, ValueChoice, holds, hull, hull_laws};
-use ms_num::{Iv, Ranges, Sets};
+use ms_ground::{Branching, Ground, Hull, ValueChoice, as_hull, enclose, holds, hull_laws};
+use ms_num::{Ranges, Sets};
 use std::alloc::{AllocError, Global};
 
 /// What one node makes of a box.
@@ -62,7 +62,7 @@ fn narrowed_step(
             None => Ok(BoxStep::Dropped),
         },
         Some((variable, choice)) => {
-            if is_refuted(alloc, sets.as_slice(), constraints)? {
+            if is_refuted(sets.as_slice(), constraints) {
                 return Ok(BoxStep::Dropped);
             }
             let (first, second) = halves(alloc, sets, variable, choice)?;
@@ -91,14 +91,13 @@ fn only_answer(
 }
 
 // Whether a constraint is refuted on the box, so that no assignment of it meets them all.
-fn is_refuted(alloc: Global, sets: &[Ranges], constraints: &[Ground]) -> Result<bool, AllocError>
+fn is_refuted(sets: &[Ranges], constraints: &[Ground]) -> bool
     requires proper { IsProper (box_of sets.now) }
     requires fit { All (IsTruth (spans_of (box_of sets.now))) constraints.now }
-    ensures { IfOk result (λ refuted. MatchBool refuted (HoldsNone constraints.now (box_of sets.now)) (NoneRefuted constraints.now (box_of sets.now))) }
+    ensures { MatchBool result (HoldsNone constraints.now (box_of sets.now)) (NoneRefuted constraints.now (box_of sets.now)) }
 {
     hull_laws();
-    let spans = spans(alloc, sets)?;
-    Ok(!may_hold(constraints, &spans))
+    !may_hold(constraints, sets)
 }
 
 // The part of a box that is tried first, and the other.
@@ -134,16 +133,16 @@ fn least(alloc: Global, sets: &[Ranges]) -> Result<Vec<i64>, AllocError>
     Ok(numbers)
 }
 
-/// The interval of each set.
-pub fn spans(alloc: Global, sets: &[Ranges]) -> Result<Vec<Iv>, AllocError>
-    requires { IsProper (box_of sets.now) }
-    ensures { IfOk result (λ spans. spans.items ≡ spans_of (box_of sets.now)) }
+/// What the tree may mean on the box.
+pub fn hull_on(tree: &Ground, sets: &[Ranges]) -> Hull
+    requires proper { IsProper (box_of sets.now) }
+    requires fit { is_well_formed (spans_of (box_of sets.now)) tree.now ≡ true }
+    ensures { result ≡ hull_of (enclosure (spans_of (box_of sets.now)) tree.now) }
 {
-    let mut spans = Vec::with_capacity(alloc, sets.len())?;
-    for set in sets {
-        spans.push(set.ends())?;
+    match enclose(tree, sets) {
+        Some(enclosed) => as_hull(enclosed),
+        None => unreachable!(),
     }
-    Ok(spans)
 }
 
 fn meets(constraints: &[Ground], point: &[i64]) -> bool
@@ -158,13 +157,14 @@ fn meets(constraints: &[Ground], point: &[i64]) -> bool
     true
 }
 
-// Whether no constraint is refuted on the intervals.
-fn may_hold(constraints: &[Ground], spans: &[Iv]) -> bool
-    requires { All (IsTruth spans.now) constraints.now }
-    ensures { MatchBool result (All (MayBeTrue spans.now) constraints.now) (Any (Refuted spans.now) constraints.now) }
+// Whether no constraint is refuted on the box.
+fn may_hold(constraints: &[Ground], sets: &[Ranges]) -> bool
+    requires proper { IsProper (box_of sets.now) }
+    requires fit { All (IsTruth (spans_of (box_of sets.now))) constraints.now }
+    ensures { MatchBool result (All (MayBeTrue (spans_of (box_of sets.now))) constraints.now) (Any (Refuted (spans_of (box_of sets.now))) constraints.now) }
 {
     for constraint in constraints {
-        if !hull(constraint, spans).may_be_true {
+        if !hull_on(constraint, sets).may_be_true {
             return false;
         }
     }

@@ -1,3 +1,4 @@
+use Rattle.std.proofs.Common.{false, refl}
 use Rattle.std.proofs.Common.{◌≡◌, ◌∙◌, sym, ap, None, Some}
 use Rattle.ms_boxes.specs.Branchings.{pick}
 use Rattle.ms_boxes.specs.Boxes.{box_of}
@@ -26,5 +27,5 @@ pub returns : goal.returns
 returns c =
     let some : pick c.args.branching.now (box_of c.args.sets) ≡ Some (c.in-Some.variable, c.in-Some.choice) = cc in
     cuts_from c.args.branching.now c.args.constraints.now (box_of c.args.sets) (box_of c.in_ok-first-in-Some.first) (box_of c.in_ok-first-in-Some.second) c.in-Some.variable c.in-Some.choice c.requires.proper some
-    (not_refuted c.args.sets c.as_slice-in-Some.result.now c.args.constraints.now c.in_ok-is_refuted-in-Some.field-0 c.as_slice-in-Some.ensures c.if-branch.false c.in_ok-is_refuted-in-Some.ensures)
+    (not_refuted c.args.sets c.as_slice-in-Some.result.now c.args.constraints.now false c.as_slice-in-Some.ensures refl c.if-is_refuted.ensures)
     c.in_ok-first-in-Some.ensures
