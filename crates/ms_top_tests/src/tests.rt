@@ -8,20 +8,6 @@ use std::alloc::{AllocError, Global};
 use std::process::Abort;
 use std::test::Fail;
 
-const PLAIN: Status = Status::Done(Closing::Plain, None);
-
-const UNSATISFIABLE: Status = Status::Done(Closing::Unsatisfiable, None);
-
-const FORM: Status = Status::Refused(Fault::Form(0));
-
-fn lex(line: u32, col: u32, kind: LexKind) -> Status {
-    Status::Refused(Fault::Lex(Place { file: 0, line, col }, kind))
-}
-
-fn syntax(line: u32, col: u32) -> Status {
-    Status::Refused(Fault::Syntax(Place { file: 0, line, col }))
-}
-
 fn words(alloc: Global, list: &[&str]) -> Result<Vec<String>, AllocError> {
     let mut words = Vec::new(alloc);
     for word in list {
@@ -30,12 +16,12 @@ fn words(alloc: Global, list: &[&str]) -> Result<Vec<String>, AllocError> {
     Ok(words)
 }
 
-/// The program's answer for the bytes of a model.
+/// Holds the program's answer for the bytes of a model against what should be written and said, of which one is
+/// nothing. What is said has the kind and the place of a fault.
 fn answers(
     rt: &impl Abort,
     alloc: Global,
     model: &[u8],
-    status: Status,
     out: &[u8],
     err: &[u8],
 ) -> Result<(), AllocError> {
@@ -48,7 +34,6 @@ fn answers(
     said.fail(u64::from(!err.is_empty()), 0)?;
     let words = words(alloc, &["minisearch", "m.mzn"])?;
     let answer = run(alloc, &words, &mut files, &mut written, &mut said);
-    assert_eq!(rt; answer, status);
     assert_eq!(rt; answer.code(), u8::from(!err.is_empty()));
     assert_eq!(rt; written.bytes(), out);
     assert_eq!(rt; said.bytes(), err);
@@ -57,157 +42,156 @@ fn answers(
     Ok(())
 }
 
+/// The status for the bytes of a model.
+fn status_of(alloc: Global, model: &[u8]) -> Result<Status, AllocError> {
+    let mut files = MemFiles::new(alloc);
+    files.hold("m.mzn", model)?;
+    let mut written = MemSink::new(alloc);
+    let mut said = MemSink::new(alloc);
+    let words = words(alloc, &["minisearch", "m.mzn"])?;
+    Ok(run(alloc, &words, &mut files, &mut written, &mut said))
+}
+
+/// A model, what is written for it, and what is said.
+const ANSWERS: [(&[u8], &[u8], &[u8]); 29] = [
+    (
+        b"var 1..3: x; var 1..3: y; constraint x + y = 4; constraint x < y; solve satisfy;",
+        b"x = 1;\ny = 3;\n----------\n",
+        b"",
+    ),
+    (
+        b"var 1..2: x; constraint x < x; solve satisfy;",
+        b"=====UNSATISFIABLE=====\n",
+        b"",
+    ),
+    (
+        b"var -1..1: a;var 0 .. 2:b;constraint a+b+1>=-1+4;constraint a!=b ; solve satisfy;",
+        b"a = 0;\nb = 2;\n----------\n",
+        b"",
+    ),
+    (b"solve satisfy", b"----------\n", b""),
+    (
+        b"% one\r\nsolve /* two */ satisfy;\r\n",
+        b"----------\n",
+        b"",
+    ),
+    (
+        b"var 1..0: x; solve satisfy;",
+        b"=====UNSATISFIABLE=====\n",
+        b"",
+    ),
+    (
+        b"var 2..9: x; constraint x <= 3; constraint x > 2; constraint x == 3; solve satisfy;",
+        b"x = 3;\n----------\n",
+        b"",
+    ),
+    (
+        b"var -1000000..0: x; solve satisfy;",
+        b"x = -1000000;\n----------\n",
+        b"",
+    ),
+    (
+        b"var -1000001..0: x; solve satisfy;",
+        b"",
+        b"m.mzn: not built yet\n",
+    ),
+    (b"", b"", b"m.mzn: not built yet\n"),
+    (b" \t\r\n", b"", b"m.mzn: not built yet\n"),
+    (b"var 1..3 x;", b"", b"m.mzn:1:10: syntax error\n"),
+    (
+        b"var 1..2: x; var 1..2: x; solve satisfy;",
+        b"",
+        b"m.mzn: not built yet\n",
+    ),
+    (
+        b"constraint y > 0; solve satisfy;",
+        b"",
+        b"m.mzn: not built yet\n",
+    ),
+    (
+        b"var 1..3: x; constraint x<-1; solve satisfy;",
+        b"",
+        b"m.mzn: not built yet\n",
+    ),
+    (b"solve minimize 3;", b"", b"m.mzn: not built yet\n"),
+    (
+        b"var 1..3: x; constraint x = (1); solve satisfy;",
+        b"",
+        b"m.mzn: not built yet\n",
+    ),
+    (
+        b"constraint 1 = 1; var 1..3: x; solve satisfy;",
+        b"",
+        b"m.mzn: not built yet\n",
+    ),
+    (
+        b"solve satisfy; constraint 1 = 1",
+        b"",
+        b"m.mzn: not built yet\n",
+    ),
+    (
+        b"varx 1..3: x; solve satisfy;",
+        b"",
+        b"m.mzn:1:6: syntax error\n",
+    ),
+    (
+        b"var 1..: x; solve satisfy;",
+        b"",
+        b"m.mzn:1:8: syntax error\n",
+    ),
+    (b"solve satisfy;;", b"", b"m.mzn:1:15: syntax error\n"),
+    (
+        b"constraint 1 < 2 < 3; solve satisfy;",
+        b"",
+        b"m.mzn:1:18: syntax error\n",
+    ),
+    (
+        b"constraint a < b < c; solve satisfy;",
+        b"",
+        b"m.mzn:1:18: syntax error\n",
+    ),
+    (b"\n solve % not yet\n", b"", b"m.mzn:2:7: syntax error\n"),
+    (
+        b"solve satisfy;\n\xff",
+        b"",
+        b"m.mzn:2:1: unexpected byte\n",
+    ),
+    (b"\"ab", b"", b"m.mzn:1:1: text is not closed\n"),
+    (b" /* a", b"", b"m.mzn:1:2: comment is not closed\n"),
+    (
+        b"9223372036854775808",
+        b"",
+        b"m.mzn:1:1: number too large\n",
+    ),
+];
+
 #[test]
 fn models_are_answered(rt: HostRuntime) -> Result<(), Fail> {
-    let alloc = rt.alloc();
-    let nothing = b"".as_slice();
-    let separator = b"----------\n".as_slice();
-    let unsatisfiable = b"=====UNSATISFIABLE=====\n".as_slice();
-    let form = b"m.mzn: not built yet\n".as_slice();
-    let rows = [
-        (
-            b"var 1..3: x; var 1..3: y; constraint x + y = 4; constraint x < y; solve satisfy;".as_slice(),
-            PLAIN,
-            b"x = 1;\ny = 3;\n----------\n".as_slice(),
-            nothing,
-        ),
-        (
-            b"var 1..2: x; constraint x < x; solve satisfy;",
-            UNSATISFIABLE,
-            unsatisfiable,
-            nothing,
-        ),
-        (
-            b"var -1..1: a;var 0 .. 2:b;constraint a+b+1>=-1+4;constraint a!=b ; solve satisfy;",
-            PLAIN,
-            b"a = 0;\nb = 2;\n----------\n",
-            nothing,
-        ),
-        (b"solve satisfy", PLAIN, separator, nothing),
-        (
-            b"% one\r\nsolve /* two */ satisfy;\r\n",
-            PLAIN,
-            separator,
-            nothing,
-        ),
-        (
-            b"var 1..0: x; solve satisfy;",
-            UNSATISFIABLE,
-            unsatisfiable,
-            nothing,
-        ),
-        (
-            b"var 2..9: x; constraint x <= 3; constraint x > 2; constraint x == 3; solve satisfy;",
-            PLAIN,
-            b"x = 3;\n----------\n",
-            nothing,
-        ),
-        (
-            b"var -1000000..0: x; solve satisfy;",
-            PLAIN,
-            b"x = -1000000;\n----------\n",
-            nothing,
-        ),
-        (b"var -1000001..0: x; solve satisfy;", FORM, nothing, form),
-        (b"", FORM, nothing, form),
-        (b" \t\r\n", FORM, nothing, form),
-        (
-            b"var 1..3 x;",
-            syntax(1, 10),
-            nothing,
-            b"m.mzn:1:10: syntax error\n",
-        ),
-        (
-            b"var 1..2: x; var 1..2: x; solve satisfy;",
-            FORM,
-            nothing,
-            form,
-        ),
-        (b"constraint y > 0; solve satisfy;", FORM, nothing, form),
-        (
-            b"var 1..3: x; constraint x<-1; solve satisfy;",
-            FORM,
-            nothing,
-            form,
-        ),
-        (b"solve minimize 3;", FORM, nothing, form),
-        (
-            b"var 1..3: x; constraint x = (1); solve satisfy;",
-            FORM,
-            nothing,
-            form,
-        ),
-        (
-            b"constraint 1 = 1; var 1..3: x; solve satisfy;",
-            FORM,
-            nothing,
-            form,
-        ),
-        (b"solve satisfy; constraint 1 = 1", FORM, nothing, form),
-        (
-            b"varx 1..3: x; solve satisfy;",
-            syntax(1, 6),
-            nothing,
-            b"m.mzn:1:6: syntax error\n",
-        ),
-        (
-            b"var 1..: x; solve satisfy;",
-            syntax(1, 8),
-            nothing,
-            b"m.mzn:1:8: syntax error\n",
-        ),
-        (
-            b"solve satisfy;;",
-            syntax(1, 15),
-            nothing,
-            b"m.mzn:1:15: syntax error\n",
-        ),
-        (
-            b"constraint 1 < 2 < 3; solve satisfy;",
-            syntax(1, 18),
-            nothing,
-            b"m.mzn:1:18: syntax error\n",
-        ),
-        (
-            b"constraint a < b < c; solve satisfy;",
-            syntax(1, 18),
-            nothing,
-            b"m.mzn:1:18: syntax error\n",
-        ),
-        (
-            b"\n solve % not yet\n",
-            syntax(2, 7),
-            nothing,
-            b"m.mzn:2:7: syntax error\n",
-        ),
-        (
-            b"solve satisfy;\n\xff",
-            lex(2, 1, LexKind::BadByte),
-            nothing,
-            b"m.mzn:2:1: unexpected byte\n",
-        ),
-        (
-            b"\"ab",
-            lex(1, 1, LexKind::OpenText),
-            nothing,
-            b"m.mzn:1:1: text is not closed\n",
-        ),
-        (
-            b" /* a",
-            lex(1, 2, LexKind::OpenComment),
-            nothing,
-            b"m.mzn:1:2: comment is not closed\n",
-        ),
-        (
-            b"9223372036854775808",
-            lex(1, 1, LexKind::BigNumber),
-            nothing,
-            b"m.mzn:1:1: number too large\n",
-        ),
-    ];
-    for (model, status, out, err) in rows {
-        answers(&rt, alloc, model, status, out, err)?;
+    for (model, out, err) in ANSWERS {
+        answers(&rt, rt.alloc(), model, out, err)?;
     }
+    Ok(())
+}
+
+/// The status has the kind and the place of a fault, or the closing.
+#[test]
+fn statuses_are_told(rt: HostRuntime) -> Result<(), Fail> {
+    let alloc = rt.alloc();
+    let place = Place {
+        file: 0,
+        line: 2,
+        col: 1,
+    };
+    let lex = Status::Refused(Fault::Lex(place, LexKind::BadByte));
+    assert_eq!(rt; status_of(alloc, b"\n_")?, lex);
+    let syntax = Status::Refused(Fault::Syntax(place));
+    assert_eq!(rt; status_of(alloc, b"\n;")?, syntax);
+    let form = Status::Refused(Fault::Form(0));
+    assert_eq!(rt; status_of(alloc, b"")?, form);
+    let plain = Status::Done(Closing::Plain, None);
+    assert_eq!(rt; status_of(alloc, b"solve satisfy")?, plain);
+    let none = Status::Done(Closing::Unsatisfiable, None);
+    assert_eq!(rt; status_of(alloc, b"var 1..0: x; solve satisfy")?, none);
     Ok(())
 }
 
@@ -251,14 +235,13 @@ fn within(
 fn files_are_short(rt: HostRuntime) -> Result<(), Fail> {
     let alloc = rt.alloc();
     let longest = repeated(alloc, b" ", 1048562, b"solve satisfy;")?;
-    answers(&rt, alloc, &longest, PLAIN, b"----------\n", b"")?;
+    answers(&rt, alloc, &longest, b"----------\n", b"")?;
     let longer = repeated(alloc, b" ", 1048563, b"solve satisfy;")?;
-    let long = Status::Refused(Fault::LongFile(0));
     let text = b"m.mzn: longer than 1048576 bytes\n".as_slice();
-    answers(&rt, alloc, &longer, long, b"", text)?;
+    answers(&rt, alloc, &longer, b"", text)?;
     let other = repeated(alloc, b";", 1048576, b"")?;
     let text = b"m.mzn:1:1: syntax error\n".as_slice();
-    answers(&rt, alloc, &other, syntax(1, 1), b"", text)?;
+    answers(&rt, alloc, &other, b"", text)?;
     Ok(())
 }
 
@@ -268,27 +251,20 @@ fn plain_models_are_small(rt: HostRuntime) -> Result<(), Fail> {
     let alloc = rt.alloc();
     let eight = declared(alloc, b"abcdefgh")?;
     let zeros = b"a = 0;\nb = 0;\nc = 0;\nd = 0;\ne = 0;\nf = 0;\ng = 0;\nh = 0;\n----------\n";
-    answers(&rt, alloc, &eight, PLAIN, zeros, b"")?;
+    answers(&rt, alloc, &eight, zeros, b"")?;
     let end = b"0 = 0; solve satisfy;".as_slice();
     let hundred = within(alloc, b"constraint ", b"0 + ", 99, end)?;
-    answers(&rt, alloc, &hundred, PLAIN, b"----------\n", b"")?;
+    answers(&rt, alloc, &hundred, b"----------\n", b"")?;
     let greatest = b"var 0..1000000: x; constraint x >= 1000000; solve satisfy;".as_slice();
-    answers(
-        &rt,
-        alloc,
-        greatest,
-        PLAIN,
-        b"x = 1000000;\n----------\n",
-        b"",
-    )?;
+    answers(&rt, alloc, greatest, b"x = 1000000;\n----------\n", b"")?;
 
     let form = b"m.mzn: not built yet\n".as_slice();
     let nine = declared(alloc, b"abcdefghi")?;
-    answers(&rt, alloc, &nine, FORM, b"", form)?;
+    answers(&rt, alloc, &nine, b"", form)?;
     let more = within(alloc, b"constraint ", b"0 + ", 100, end)?;
-    answers(&rt, alloc, &more, FORM, b"", form)?;
+    answers(&rt, alloc, &more, b"", form)?;
     let greater = b"var 0..1000001: x; solve satisfy;".as_slice();
-    answers(&rt, alloc, greater, FORM, b"", form)?;
+    answers(&rt, alloc, greater, b"", form)?;
     Ok(())
 }
 
@@ -298,16 +274,10 @@ fn brackets_nest_so_deep(rt: HostRuntime) -> Result<(), Fail> {
     let alloc = rt.alloc();
     let opened = within(alloc, b"constraint ", b"(", 200, b"1")?;
     let nested = within(alloc, &opened, b")", 200, b"; solve satisfy;")?;
-    answers(&rt, alloc, &nested, FORM, b"", b"m.mzn: not built yet\n")?;
+    answers(&rt, alloc, &nested, b"", b"m.mzn: not built yet\n")?;
     let deep = within(alloc, b"constraint ", b"(", 201, b"")?;
-    let place = Place {
-        file: 0,
-        line: 1,
-        col: 212,
-    };
-    let status = Status::Refused(Fault::Deep(place));
     let text = b"m.mzn:1:212: nested too deeply\n".as_slice();
-    answers(&rt, alloc, &deep, status, b"", text)?;
+    answers(&rt, alloc, &deep, b"", text)?;
     Ok(())
 }
 
@@ -326,7 +296,7 @@ fn cut_texts_are_answered(rt: HostRuntime) -> Result<(), Fail> {
         let words = words(alloc, &["minisearch", "m.mzn"])?;
         let answer = run(alloc, &words, &mut files, &mut written, &mut said);
         if behind == b";".as_slice() {
-            assert_eq!(rt; answer, PLAIN);
+            assert_eq!(rt; answer, Status::Done(Closing::Plain, None));
         } else {
             let is_fault = matches!(
                 answer,
