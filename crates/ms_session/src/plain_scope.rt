@@ -4,15 +4,13 @@ ghost use Rattle.ms_session.specs.Stored.{AreOpening, IsVoid};
 
 use crate::plain_node::BoxStep;
 use ms_base::Point;
-use ms_ground::{Ground, Trees, copy_trees};
 use ms_num::{Ranges, Sets};
 use std::alloc::{AllocError, Global};
 
-/// A scope whose frontier is a list of boxes.
+/// A scope whose frontier is a list of boxes. Its constraints are kept beside it.
 #[derive(Drop)]
 pub struct PlainScope {
-    pub constraints: Trees,
-    /// The sizes of all constraints together.
+    /// The sizes of all its constraints together.
     pub live: u64,
     pub given: Vec<Point>,
     /// The frontier, its first box last.
@@ -21,21 +19,22 @@ pub struct PlainScope {
     pub closed: bool,
 }
 
+/// A scope below the current one. Its constraints are the first so many of those of the scope above it.
+#[derive(Drop)]
+pub struct Parent {
+    pub scope: PlainScope,
+    pub posted: usize,
+}
+
 impl PlainScope {
     ghost use Rattle.std.specs.Prelude.{◌+◌, ◌<◌, ◌^◌, IfOk, OnErr};
     ghost use Rattle.ms_session.specs.Stored.{IsOpened, Applies, KeepsBoxes};
 
-    /// A fresh scope with these constraints, of this size together.
-    pub fn open(
-        alloc: Global,
-        declared: &Sets,
-        constraints: &[Ground],
-        live: u64,
-    ) -> Result<PlainScope, AllocError>
-        ensures { IfOk result (IsOpened declared.now constraints.now live) }
+    /// A fresh scope whose constraints have this size together.
+    pub fn open(alloc: Global, declared: &Sets, live: u64) -> Result<PlainScope, AllocError>
+        ensures { IfOk result (IsOpened declared.now live) }
     {
         Ok(PlainScope {
-            constraints: copy_trees(alloc, constraints)?,
             live,
             given: Vec::new(alloc),
             boxes: opening_boxes(alloc, declared)?,

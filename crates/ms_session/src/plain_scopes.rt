@@ -4,7 +4,7 @@ ghost use Rattle.ms_session.specs.Scopes.{live_nodes};
 
 use crate::nodes::Nodes;
 use crate::plain_node::box_step;
-use crate::plain_scope::PlainScope;
+use crate::plain_scope::{Parent, PlainScope};
 use ms_base::Point;
 use ms_ground::{Branching, Ground, hull_laws, size};
 use ms_num::{Ranges, Sets};
@@ -18,9 +18,11 @@ pub struct PlainScopes {
     alloc: Global,
     declared: Sets,
     branching: Branching,
+    // Those of the current scope: the first of them are those of the scopes below it.
+    constraints: Vec<Ground>,
     current: PlainScope,
     // The scopes below the current one, the nearest last.
-    parents: Vec<PlainScope>,
+    parents: Vec<Parent>,
     failed: bool,
 }
 
@@ -29,15 +31,15 @@ impl Model for PlainScopes {
     ghost use Rattle.std.specs.Coded.{codes};
     ghost use Rattle.ms_trees.specs.contracts.tree.Ground as tree;
     ghost use Rattle.ms_boxes.specs.Boxes.{box_of};
-    ghost use Rattle.ms_session.specs.Stored.{Stored, stored_of, AreSound};
+    ghost use Rattle.ms_session.specs.Stored.{Stored, stored_of, parent_of, AreSound};
 
     ghost Value = { Stored };
 
     ghost coded = { Prim.hlevel (codes, tree.the_row.coded) };
 
-    ghost view = { λ s. record { sets = s.declared; branching = s.branching; scope = stored_of s.current; parents = map stored_of (reverse s.parents.items); failed = s.failed } };
+    ghost view = { λ s. record { sets = s.declared; branching = s.branching; constraints = s.constraints.items; scope = stored_of s.current; parents = map parent_of (reverse s.parents.items); failed = s.failed } };
 
-    ghost invariant = { λ s. AreSound (box_of s.declared) s.current s.parents.items };
+    ghost invariant = { λ s. AreSound (box_of s.declared) s.constraints.items s.current s.parents.items };
 }
 
 impl PlainScopes {
@@ -62,11 +64,13 @@ impl PlainScopes {
     {
         let declared = declare(alloc, sets)?;
         let live = total_size(constraints);
-        let current = PlainScope::open(alloc, &declared, constraints, live)?;
+        let constraints = copy_constraints(alloc, constraints)?;
+        let current = PlainScope::open(alloc, &declared, live)?;
         Ok(PlainScopes {
             alloc,
             declared,
             branching,
+            constraints,
             current,
             parents: Vec::new(alloc),
             failed: false,
@@ -116,7 +120,8 @@ impl PlainScopes {
         ensures { Leaves (state_of self.old) (state_of self.new) }
     {
         if let Some(parent) = self.parents.pop() {
-            self.current = parent;
+            self.constraints.truncate(parent.posted);
+            self.current = parent.scope;
         }
     }
 
@@ -138,15 +143,10 @@ impl PlainScopes {
         ensures err { OnErr result (self.new ≡ self.old) }
     {
         self.parents.reserve(1)?;
-        let current = &self.current;
-        let child = PlainScope::open(
-            self.alloc,
-            &self.declared,
-            current.constraints.as_slice(),
-            current.live,
-        )?;
-        let parent = mem::replace(&mut self.current, child);
-        self.parents.push_reserved(parent);
+        let child = PlainScope::open(self.alloc, &self.declared, self.current.live)?;
+        let scope = mem::replace(&mut self.current, child);
+        let posted = self.constraints.len();
+        self.parents.push_reserved(Parent { scope, posted });
         Ok(())
     }
 
@@ -156,8 +156,9 @@ impl PlainScopes {
         ensures ok { OnOk result (state_of self.new ≡ with_constraint (state_of self.old) constraint.now) }
         ensures err { OnErr result (self.new ≡ self.old) }
     {
+        self.constraints.reserve(1)?;
         let copied = constraint.copy(self.alloc)?;
-        self.current.constraints.push(copied)?;
+        self.constraints.push_reserved(copied);
         self.current.live += size(constraint);
         Ok(())
     }
@@ -173,7 +174,7 @@ impl PlainScopes {
         let Some(first) = self.current.boxes.pop() else {
             return Ok(None);
         };
-        let constraints = self.current.constraints.as_slice();
+        let constraints = self.constraints.as_slice();
         let step = box_step(self.alloc, first, constraints, &self.branching)?;
         self.current.apply(self.alloc, step)
     }
@@ -221,6 +222,17 @@ fn declare(alloc: Global, sets: &[Ranges]) -> Result<Sets, AllocError>
         copies.push(set.copy(alloc)?)?;
     }
     Ok(Sets::from_vec(copies))
+}
+
+// Copies the constraints with which a session begins.
+fn copy_constraints(alloc: Global, constraints: &[Ground]) -> Result<Vec<Ground>, AllocError>
+    ensures { IfOk result (λ copies. copies.items ≡ constraints.now) }
+{
+    let mut copies = Vec::with_capacity(alloc, constraints.len())?;
+    for constraint in constraints {
+        copies.push(constraint.copy(alloc)?)?;
+    }
+    Ok(copies)
 }
 
 // The sizes of the trees together.
