@@ -224,6 +224,30 @@ narrowed_by b t bound spans (Ok None) i e h c = λ p k holds. c p k (h p (subst 
 narrowed_by b t bound spans (Ok (Some n)) i e h c = record { box = c.box; keeps = λ p k holds. c.keeps p k (h p (subst (LiesIn p) (sym e) (lies_in b p i k)) holds) }
 narrowed_by b t bound spans (Err x) i e h c = tt
 
+proper_is_declared : (b : Box) → IsProper b → Each IsDeclared b
+proper_is_declared [] i = tt
+proper_is_declared (s ∷ b) i = (inl i.0, proper_is_declared b i.1)
+
+declared_same : (b : Box) → IsProper b → declared_spans b ≡ spans_of b
+declared_same [] i = refl
+declared_same (s ∷ b) i = both (declared_span s) (span_of s) (declared_spans b) (spans_of b) (ap (λ t. if t then span_of s else point (pos 0)) (of_le s.lo s.hi (i.0.from s.hi i.0.high))) (declared_same b i.1)
+  where
+    both : (x y : Span) (xs ys : List Span) → x ≡ y → xs ≡ ys → x ∷ xs ≡ y ∷ ys
+    both x y xs ys e f = cc
+
+-- what is left of a box by a constraint is fit for it again
+pub fit_left : SmallerBoxesStayWellFormed → (b c : Box) (t : Ground) → IsProper b → IsTruth (spans_of b) t → NarrowsBy t b c → IsTruth (spans_of c) t
+fit_left law b c t proper fit by = fit_on_box law b c (proper_is_declared b proper) by.box t (subst (λ s. IsTruth s t) (sym (declared_same b proper)) fit)
+
+pub proper_left : (b c : Box) (t : Ground) → NarrowsBy t b c → IsProper c
+proper_left b c t by = box_proper b c by.box
+
+-- a box that is narrowed twice by a constraint
+pub narrowed_twice : (b c : Box) (t : Ground) (r : Result (Option (List (List Span))) AllocError) → NarrowsBy t b c → IfOk r (λ narrowed. MatchOption narrowed (MeetsNone t c) (λ n. NarrowsBy t c (box_of n))) → IfOk r (λ narrowed. MatchOption narrowed (MeetsNone t b) (λ n. NarrowsBy t b (box_of n)))
+narrowed_twice b c t (Ok None) by none = λ p k holds. none p (by.keeps p k holds) holds
+narrowed_twice b c t (Ok (Some n)) by more = record { box = box_within_box b c (box_of n) by.box more.box; keeps = λ p k holds. more.keeps p (by.keeps p k holds) holds }
+narrowed_twice b c t (Err x) by h = tt
+
 holds_at : (cons : List Ground) (p : Assignment) (i : ℕ) (t : Ground) → i < length cons → t ≡ slice_index_or cons i t → Meets cons p → Holds p t
 holds_at cons p i t l e m = subst (Holds p) (sym e) (m i t l)
 
@@ -238,17 +262,6 @@ narrowed_none cons b c i t l e so none p k m = none p (so.keeps p k m) (holds_at
 
 pub narrows_self : (cons : List Ground) (b : Box) → IsProper b → Narrows cons b b
 narrows_self cons b i = record { box = box_self b i; keeps = λ p k m. k }
-
-proper_is_declared : (b : Box) → IsProper b → Each IsDeclared b
-proper_is_declared [] i = tt
-proper_is_declared (s ∷ b) i = (inl i.0, proper_is_declared b i.1)
-
-declared_same : (b : Box) → IsProper b → declared_spans b ≡ spans_of b
-declared_same [] i = refl
-declared_same (s ∷ b) i = both (declared_span s) (span_of s) (declared_spans b) (spans_of b) (ap (λ t. if t then span_of s else point (pos 0)) (of_le s.lo s.hi (i.0.from s.hi i.0.high))) (declared_same b i.1)
-  where
-    both : (x y : Span) (xs ys : List Span) → x ≡ y → xs ≡ ys → x ∷ xs ≡ y ∷ ys
-    both x y xs ys e f = cc
 
 pub fit_narrowed : SmallerBoxesStayWellFormed → (cons : List Ground) (b c : Box) (i : ℕ) (t : Ground) → i < length cons → t ≡ slice_index_or cons i t → IsProper b → All (IsTruth (spans_of b)) cons → Narrows cons b c → IsTruth (spans_of c) t
 fit_narrowed law cons b c i t l e proper fit so = fit_on_box law b c (proper_is_declared b proper) so.box t (subst (λ s. IsTruth s t) (sym (declared_same b proper)) (subst (IsTruth (spans_of b)) (sym e) (fit i t l)))

@@ -1,8 +1,8 @@
-ghost use Rattle.std.specs.Prelude.{◌≡◌, ◌&&◌, ℤ, true, IfOk, IfSome, All, MatchOption};
+ghost use Rattle.std.specs.Prelude.{◌≡◌, ◌≢◌, ◌&&◌, [], ℤ, true, IfOk, IfSome, All, MatchOption};
 ghost use Rattle.ms_num.specs.Ranges.{is_member, IsRanges};
 ghost use Rattle.ms_trees.specs.declared.tree.Ground.TheVariants.{Var};
 ghost use Rattle.ms_trees.specs.WellFormed.{IsTruth, is_well_formed, is_numeric};
-ghost use Rattle.ms_num.specs.Sets.{spans_of};
+ghost use Rattle.ms_num.specs.Sets.{spans_of, set_of};
 ghost use Rattle.ms_boxes.specs.Boxes.{box_of, IsProper};
 ghost use Rattle.ms_boxes.specs.Trees.{HoldsNone};
 ghost use Rattle.ms_session.specs.Narrowing.{is_kept, IsTied, Bounds, CutsAway, CutsTo, Narrows, MeetsNone, NarrowsBy};
@@ -48,7 +48,7 @@ pub fn narrow(alloc: Global, sets: Sets, constraints: &[Ground]) -> Result<Optio
     Ok(Some(current))
 }
 
-// The same by one constraint.
+// The same by one constraint: its left part is cut, and then its right part on what is left.
 fn narrow_by(alloc: Global, sets: Sets, constraint: &Ground) -> Result<Option<Sets>, AllocError>
     requires proper { IsProper (box_of sets) }
     requires fit { IsTruth (spans_of (box_of sets)) constraint.now }
@@ -57,9 +57,10 @@ fn narrow_by(alloc: Global, sets: Sets, constraint: &Ground) -> Result<Option<Se
     if !is_comparison(constraint) {
         return Ok(Some(sets));
     }
-    match bound_of(constraint, sets.as_slice()) {
-        Some(bound) => cut(alloc, sets, bound),
-        None => Ok(Some(sets)),
+    hull_laws();
+    match narrow_left(alloc, sets, constraint)? {
+        Some(narrowed) => narrow_right(alloc, narrowed, constraint),
+        None => Ok(None),
     }
 }
 
@@ -70,15 +71,27 @@ fn is_comparison(constraint: &Ground) -> bool {
     )
 }
 
-// The bound of a variable that is one part of a comparison.
-fn bound_of(constraint: &Ground, sets: &[Ranges]) -> Option<Bound>
-    requires proper { IsProper (box_of sets.now) }
-    requires fit { IsTruth (spans_of (box_of sets.now)) constraint.now }
-    ensures { IfSome result (Bounds (spans_of (box_of sets.now)) constraint.now) }
+// Cuts the left part of a comparison, where it is a variable.
+fn narrow_left(alloc: Global, sets: Sets, constraint: &Ground) -> Result<Option<Sets>, AllocError>
+    requires proper { IsProper (box_of sets) }
+    requires fit { IsTruth (spans_of (box_of sets)) constraint.now }
+    ensures { IfOk result (λ narrowed. MatchOption narrowed (MeetsNone constraint.now (box_of sets)) (λ n. NarrowsBy constraint.now (box_of sets) (box_of n))) }
 {
-    match left_bound(constraint, sets) {
-        Some(bound) => Some(bound),
-        None => right_bound(constraint, sets),
+    match left_bound(constraint, sets.as_slice()) {
+        Some(bound) => cut(alloc, sets, bound),
+        None => Ok(Some(sets)),
+    }
+}
+
+// The same of the right part.
+fn narrow_right(alloc: Global, sets: Sets, constraint: &Ground) -> Result<Option<Sets>, AllocError>
+    requires proper { IsProper (box_of sets) }
+    requires fit { IsTruth (spans_of (box_of sets)) constraint.now }
+    ensures { IfOk result (λ narrowed. MatchOption narrowed (MeetsNone constraint.now (box_of sets)) (λ n. NarrowsBy constraint.now (box_of sets) (box_of n))) }
+{
+    match right_bound(constraint, sets.as_slice()) {
+        Some(bound) => cut(alloc, sets, bound),
+        None => Ok(Some(sets)),
     }
 }
 
@@ -134,13 +147,17 @@ fn variable_of(tree: &Ground) -> Option<u32>
     }
 }
 
-// Cuts the set of the variable to the bound; nothing is left where it has no number there.
+// Cuts the set of the variable to the bound; nothing is left where it has no number there, and the sets are not
+// touched where all its numbers are.
 fn cut(alloc: Global, sets: Sets, bound: Bound) -> Result<Option<Sets>, AllocError>
     requires { IsProper (box_of sets) }
     ensures { IfOk result (λ cut. MatchOption cut (CutsAway bound (box_of sets)) (λ n. CutsTo bound (box_of sets) (box_of n))) }
 {
     let at = bound.variable as usize;
     if at >= sets.as_slice().len() {
+        return Ok(Some(sets));
+    }
+    if is_within(&sets.as_slice()[at], bound) {
         return Ok(Some(sets));
     }
     let kept = kept_of(alloc, &sets.as_slice()[at], bound)?;
@@ -150,6 +167,29 @@ fn cut(alloc: Global, sets: Sets, bound: Bound) -> Result<Option<Sets>, AllocErr
     let mut cut = sets.into_vec();
     cut[at] = kept;
     Ok(Some(Sets::from_vec(cut)))
+}
+
+// Whether both ends of the set pass, and so all its numbers.
+fn is_within(set: &Ranges, bound: Bound) -> bool
+    requires { set.now ≢ [] }
+    ensures { result ≡ (is_kept bound.relation bound.hull (set_of set.now).lo && is_kept bound.relation bound.hull (set_of set.now).hi) }
+{
+    let whole = set.ends();
+    passes(bound, whole.lo()) && passes(bound, whole.hi())
+}
+
+// Whether the number may be so related to one between the ends of the hull.
+fn passes(bound: Bound, number: i64) -> bool
+    ensures { result ≡ is_kept bound.relation bound.hull number }
+{
+    let (lo, hi) = (bound.hull.lo, bound.hull.hi);
+    match bound.relation {
+        Relation::Equal => lo <= number && number <= hi,
+        Relation::AtMost => number <= hi,
+        Relation::Less => number <= hi && number != hi,
+        Relation::AtLeast => lo <= number,
+        Relation::Greater => lo <= number && number != lo,
+    }
 }
 
 // The numbers of the set that pass.
