@@ -1,19 +1,19 @@
 -- Claims that rise: no two meet, and so the parts have room.
-use Rattle.std.proofs.Common.{◌≡◌, ◌≢◌, ℕ, ◌+◌, ◌-◌, ◌<◌, ◌≤◌, ◌⊎◌, inl, inr, List, [], ◌∷◌, map, length, get_or, Option, Some, None, Bool, true, false, ◌&&◌, ◌||◌, refl, sym, ap, ◌∙◌, subst, arith, suc, zero}
-use Rattle.std.specs.Prelude.{ℤ, pos, ◌+ℤ◌, ◌≤ℤ◌, ◌<ℤ◌, int_le, is_some}
+use Rattle.std.proofs.Common.{◌≡◌, ℕ, ◌+◌, ◌-◌, ◌<◌, ◌≤◌, ◌⊎◌, inl, inr, List, [], ◌∷◌, map, length, Option, Some, None, true, false, ◌&&◌, ◌||◌, refl, sym, ap, ◌∙◌, subst, arith, suc, zero}
+use Rattle.std.specs.Prelude.{pos, ◌+ℤ◌, ◌≤ℤ◌, int_le}
 use Rattle.std.specs.List.{list_any}
 use Rattle.std.proofs.lemmas.Int.{ints}
 use Rattle.std.proofs.lemmas.List.{length-map, get_or-map}
 use Rattle.std.proofs.lemmas.Bool.{false≢true}
-use Rattle.ms_num.specs.Span.{Span, Inside}
+use Rattle.ms_num.specs.Span.{Span}
 use Rattle.ms_trees.specs.Enclosure as r
 use Rattle.ms_trees.specs.declared.tree.Enclosure.{Enclosure}
-use Rattle.ms_trees.proofs.Bools.{and_left, and_right, and_true, or_left, or_right, or_split, is_false, le_of, of_le}
+use Rattle.ms_trees.proofs.Bools.{and_left, and_right, or_split, is_false, le_of}
 use Rattle.ms_trees.specs.Laws.{IsCoveredBy, MeansFewerNumbers, MeansFewerTruths}
 use Rattle.ms_trees.proofs.Lists.{AllLess}
 use Rattle.ms_trees.proofs.Apart.{distinct_less}
 use Rattle.ms_evaluator.specs.declared.claims.Row.{Row}
-use Rattle.ms_evaluator.specs.Claims.{row_at, part_at, span_of, IsClaim, IsWholeClaim, IsRow, AreRows, IsWhole, AreWhole}
+use Rattle.ms_evaluator.specs.Claims.{row_at, part_at, span_of, IsClaim, IsRow, AreRows, AreWhole}
 
 -- what holds below a place, and there, holds below the next
 pub more : (P : ℕ → Type 0) (k : ℕ) → ((j : ℕ) → j < k → P j) → P k → (j : ℕ) → j < k + 1 → P j

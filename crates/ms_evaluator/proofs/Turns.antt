@@ -1,9 +1,8 @@
 -- Walks over lists of enclosures.
-use Rattle.std.proofs.Common.{◌≡◌, ℕ, ◌+◌, ◌<◌, ◌≤◌, List, [], ◌∷◌, length, drop, get_or, Option, Some, None, Bool, true, false, not, ◌&&◌, ◌||◌, refl, sym, ap, ◌∙◌, subst, arith, suc, zero, add-one}
-use Rattle.std.specs.Prelude.{ℤ, pos, is_some, if◌then◌else◌}
+use Rattle.std.proofs.Common.{◌≡◌, ℕ, ◌+◌, ◌<◌, ◌≤◌, List, [], ◌∷◌, length, drop, get_or, Some, None, Bool, true, false, not, ◌&&◌, ◌||◌, refl, sym, ap, ◌∙◌, arith, suc, zero, add-one}
+use Rattle.std.specs.Prelude.{ℤ, pos, if◌then◌else◌}
 use Rattle.std.specs.List.{list_any, list_all}
 use Rattle.std.proofs.lemmas.Bool.{false≢true}
-use Rattle.std.proofs.lemmas.List.{drop_all}
 use Rattle.ms_num.specs.Span.{Span, has, join_some, if_narrow, is_narrow}
 use Rattle.ms_trees.specs.Value.{how_many}
 use Rattle.ms_trees.specs.Enclosure as r
@@ -33,9 +32,9 @@ narrow_is s t e = at (is_narrow t) e
     at true h = h
     at false h = absurd (cc)
 
--- what stays within the limits is what the operation gives
-pub within_is : (e q : Enclosure) → Some q ≡ within_limits e → q ≡ e
-within_is e q h = at (fits e.interval) h
+-- what is known is what it is
+pub known_is : (t : Bool) (e q : Enclosure) → Some q ≡ known t e → q ≡ e
+known_is t e q h = at t h
   where
     same : Some q ≡ Some e → q ≡ e
     same k = cc
@@ -43,6 +42,10 @@ within_is e q h = at (fits e.interval) h
     at : (b : Bool) → Some q ≡ known b e → q ≡ e
     at true k = same k
     at false k = absurd (cc)
+
+-- what stays within the limits is what the operation gives
+pub within_is : (e q : Enclosure) → Some q ≡ within_limits e → q ≡ e
+within_is e q h = known_is (fits e.interval) e q h
 
 pub any_at : (f : Enclosure → Bool) (ps : List Enclosure) (k : ℕ) → k < length ps → f (part_at ps k) ≡ true → list_any f ps ≡ true
 any_at f [] k b e = absurd (omega (arith, b))

@@ -1,6 +1,6 @@
--- MeansFewerNumbers that parts claim for themselves, in rising order.
-use Rattle.std.specs.Prelude.{◌≡◌, ℕ, ◌+◌, ◌<◌, List, length, Option, Some, None, ℤ, pos, false, ◌+ℤ◌, ◌≤ℤ◌, slice_index_or}
-use Rattle.ms_num.specs.Span.{Span, Inside}
+-- Numbers that parts claim for themselves, in rising order.
+use Rattle.std.specs.Prelude.{◌≡◌, ℕ, ◌+◌, ◌<◌, List, length, Option, Some, None, pos, false, ◌+ℤ◌, ◌≤ℤ◌, slice_index_or}
+use Rattle.ms_num.specs.Span.{Span}
 use Rattle.ms_trees.specs.Enclosure.{numeric_enclosure}
 use Rattle.ms_trees.specs.declared.tree.Enclosure.{Enclosure}
 use Rattle.ms_evaluator.specs.declared.claims.Row.{Row}

@@ -14,8 +14,8 @@ use ms_ground::operations::{
     at_most, boolean, denial, either_of_truths, equal, equivalence, exclusive, implication, less,
     membership, numeric, unequal,
 };
-use ms_ground::{as_hull, hull};
-use ms_num::Iv;
+use ms_ground::{as_hull, enclose};
+use ms_num::Intervals;
 use ms_trees::{Enclosure, Extreme, Ground, Hull};
 use std::alloc::{AllocError, Global};
 
@@ -35,21 +35,21 @@ impl Evaluator {
     }
 
     /// What the tree may mean on the box of these intervals.
-    pub fn hull(&mut self, g: &Ground, sets: &[Iv]) -> Result<Hull, AllocError>
-        requires { IsTrue (is_well_formed_of sets.now g.now) }
-        ensures { IfOk result (λ h. h ≡ hull_of (enclosure sets.now g.now)) }
+    pub fn hull<B: Intervals>(&mut self, g: &Ground, sets: B) -> Result<Hull, AllocError>
+        requires { IsTrue (is_well_formed_of (B.spans sets) g.now) }
+        ensures { IfOk result (λ h. h ≡ hull_of (enclosure (B.spans sets) g.now)) }
     {
         self.kept.clear();
         match self.node(g, sets) {
             Ok(x) => Ok(as_hull(x)),
             Err(Stop::Memory(error)) => Err(error),
-            Err(Stop::Unfit) => Ok(hull(g, sets)),
+            Err(Stop::Unfit) => Ok(hull_on(g, sets)),
         }
     }
 
     // What the tree may mean.
-    fn node(&mut self, g: &Ground, sets: &[Iv]) -> Result<Enclosure, Stop>
-        ensures { IfOk result (λ r. r ≡ enclosure sets.now g.now) }
+    fn node<B: Intervals>(&mut self, g: &Ground, sets: B) -> Result<Enclosure, Stop>
+        ensures { IfOk result (λ r. r ≡ enclosure (B.spans sets) g.now) }
     {
         match self.number(g, sets) {
             Err(Stop::Unfit) => self.truth(g, sets),
@@ -59,14 +59,14 @@ impl Evaluator {
 
     // What an integer tree may mean.
     #[cycle(walk)]
-    fn number(&mut self, g: &Ground, sets: &[Iv]) -> Result<Enclosure, Stop>
-        ensures value { IfOk result (λ r. r ≡ enclosure sets.now g.now) }
+    fn number<B: Intervals>(&mut self, g: &Ground, sets: B) -> Result<Enclosure, Stop>
+        ensures value { IfOk result (λ r. r ≡ enclosure (B.spans sets) g.now) }
         ensures kept { OnOk result (self.new.kept.items ≡ self.old.kept.items) }
     {
         match g {
             Ground::Num(n) => single(*n),
             Ground::Undef => Ok(numeric(None, true)),
-            Ground::Var(v) => variable(sets, *v),
+            Ground::Var(v) => variable(*v, sets),
             Ground::Add(a, b) => {
                 let x = self.number(a.get(), sets)?;
                 let y = self.number(b.get(), sets)?;
@@ -156,14 +156,14 @@ impl Evaluator {
 
     // What a Boolean tree may mean.
     #[cycle(walk)]
-    fn truth(&mut self, g: &Ground, sets: &[Iv]) -> Result<Enclosure, Stop>
-        ensures value { IfOk result (λ r. r ≡ enclosure sets.now g.now) }
+    fn truth<B: Intervals>(&mut self, g: &Ground, sets: B) -> Result<Enclosure, Stop>
+        ensures value { IfOk result (λ r. r ≡ enclosure (B.spans sets) g.now) }
         ensures kept { OnOk result (self.new.kept.items ≡ self.old.kept.items) }
     {
         match g {
             Ground::True => Ok(boolean(true, false)),
             Ground::False => Ok(boolean(false, true)),
-            Ground::BVar(v) => truth_variable(sets, *v),
+            Ground::BVar(v) => truth_variable(*v, sets),
             Ground::And(parts) => {
                 let base = self.push_truths(parts.as_slice(), sets)?;
                 let x = all(top(self.kept.as_slice(), base));
@@ -243,8 +243,8 @@ impl Evaluator {
 
     // What the integer parts may mean, on the stack from the place that is returned.
     #[cycle(walk)]
-    fn push_numbers(&mut self, parts: &[Ground], sets: &[Iv]) -> Result<usize, Stop>
-        ensures { IfOk result (λ base. IsPushed self.old.kept.items self.new.kept.items base (map (enclosure sets.now) parts.now)) }
+    fn push_numbers<B: Intervals>(&mut self, parts: &[Ground], sets: B) -> Result<usize, Stop>
+        ensures { IfOk result (λ base. IsPushed self.old.kept.items self.new.kept.items base (map (enclosure (B.spans sets)) parts.now)) }
     {
         let base = self.kept.len();
         for part in parts {
@@ -256,8 +256,8 @@ impl Evaluator {
 
     // The same of Boolean parts.
     #[cycle(walk)]
-    fn push_truths(&mut self, parts: &[Ground], sets: &[Iv]) -> Result<usize, Stop>
-        ensures { IfOk result (λ base. IsPushed self.old.kept.items self.new.kept.items base (map (enclosure sets.now) parts.now)) }
+    fn push_truths<B: Intervals>(&mut self, parts: &[Ground], sets: B) -> Result<usize, Stop>
+        ensures { IfOk result (λ base. IsPushed self.old.kept.items self.new.kept.items base (map (enclosure (B.spans sets)) parts.now)) }
     {
         let base = self.kept.len();
         for part in parts {
@@ -265,5 +265,16 @@ impl Evaluator {
             self.kept.extend_from_slice(&[x])?;
         }
         Ok(base)
+    }
+}
+
+// By the walk without memory, for a tree that is known to be well formed.
+fn hull_on<B: Intervals>(g: &Ground, sets: B) -> Hull
+    requires { IsTrue (is_well_formed_of (B.spans sets) g.now) }
+    ensures { result ≡ hull_of (enclosure (B.spans sets) g.now) }
+{
+    match enclose(g, sets) {
+        Some(x) => as_hull(x),
+        None => unreachable!(),
     }
 }

@@ -10,10 +10,11 @@ ghost use Rattle.ms_trees.specs.declared.tree.Enclosure.{Enclosure};
 use crate::room::{all_intervals, some_undefined};
 use crate::stop::Stop;
 use ms_ground::extremes::of_both;
+use ms_ground::leaves;
 use ms_ground::misses::{misses, misses_grid};
 use ms_ground::operations::{self, are_one, bit, boolean, gather, meets, numeric, tabled};
 use ms_ground::room::{admits, has_several, one_if};
-use ms_num::{Iv, LIMIT};
+use ms_num::{Intervals, Iv, LIMIT};
 use ms_trees::{Access, Enclosure, Extreme, Row, reaches};
 
 fn sum_of(x: Option<Iv>, y: Option<Iv>) -> Result<Option<Iv>, Stop>
@@ -332,21 +333,21 @@ pub(crate) fn single(n: i64) -> Result<Enclosure, Stop>
 }
 
 /// The numbers of a variable.
-pub(crate) fn variable(sets: &[Iv], v: u32) -> Result<Enclosure, Stop>
-    ensures { IfOk result (λ r. r ≡ numeric_enclosure (Some (span_at sets.now v)) false) }
+pub(crate) fn variable<B: Intervals>(v: u32, sets: B) -> Result<Enclosure, Stop>
+    ensures { IfOk result (λ r. r ≡ numeric_enclosure (Some (span_at (B.spans sets) v)) false) }
 {
-    match sets.get(v as usize) {
-        Some(set) => Ok(numeric(Some(*set), false)),
+    match leaves::variable(v, sets) {
+        Some(numbers) => Ok(numbers),
         None => Err(Stop::Unfit),
     }
 }
 
 /// The truth values of a variable that is 0 or 1.
-pub(crate) fn truth_variable(sets: &[Iv], v: u32) -> Result<Enclosure, Stop>
-    ensures { IfOk result (λ r. r ≡ boolean_enclosure (has (span_at sets.now v) (pos 1)) (has (span_at sets.now v) (pos 0))) }
+pub(crate) fn truth_variable<B: Intervals>(v: u32, sets: B) -> Result<Enclosure, Stop>
+    ensures { IfOk result (λ r. r ≡ boolean_enclosure (has (span_at (B.spans sets) v) (pos 1)) (has (span_at (B.spans sets) v) (pos 0))) }
 {
-    match sets.get(v as usize) {
-        Some(set) => Ok(boolean(set.has(1), set.has(0))),
+    match leaves::bit_variable(v, sets) {
+        Some(truths) => Ok(truths),
         None => Err(Stop::Unfit),
     }
 }

@@ -1,4 +1,4 @@
-use Rattle.std.proofs.Common.{◌≡◌, ◌∙◌, sym, ap, ◌||◌, ◌+◌, drop}
+use Rattle.std.proofs.Common.{◌∙◌, sym, ap, ◌||◌, ◌+◌, drop}
 use Rattle.ms_trees.specs.Enclosure as r
 use Rattle.ms_evaluator.proofs.Turns.{meet_turn}
 use Rattle.ms_evaluator.proofs.room.some_meet.Goals as goal
