@@ -1,6 +1,6 @@
 //! Sessions as a caller drives them: scopes by a table of calls, and the answers of small models beside those that
 //! enumeration finds.
-ghost use Rattle.std.specs.Prelude.{◌≡◌, ◌<◌, ◌^◌, ◌≤ℤ◌, pos, List, All, IfOk, OnOk};
+ghost use Rattle.std.specs.Prelude.{◌≡◌, ◌<◌, ◌^◌, ◌≤ℤ◌, pos, List, All, IfOk, OnOk, IsTrue};
 ghost use Rattle.ms_trees.specs.declared.tree.Ground.{Ground};
 ghost use Rattle.ms_trees.specs.WellFormed.{IsTruth};
 ghost use Rattle.ms_session.specs.declared.budget.Frame.{Frame};
@@ -13,8 +13,8 @@ ghost use Rattle.ms_session_tests.specs.Samples.{line, square, Admits, IsFree};
 
 mod trees;
 
-use self::trees::{Posted, family_tree, posted_tree};
-use ms_ground::{Branching, Ground, Order, ValueChoice, holds, hull_laws, size};
+use self::trees::{Posted, family_tree, posted_tree, triple};
+use ms_ground::{Branching, Ground, Order, ValueChoice, holds, hull_laws, size, truth};
 use ms_num::{Iv, Ranges};
 use ms_session::{Budget, PlainSession, Session, Step, room_laws};
 use std::alloc::{AllocError, Global};
@@ -350,6 +350,58 @@ fn the_smallest_set_is_split_first(rt: HostRuntime) -> Result<(), Fail> {
     let mut session = open_free(alloc, &sets, branching)?;
     let mut budget = Budget::new(alloc, 100)?;
     let answers = [[2, 6], [1, 6], [0, 6], [2, 5], [1, 5], [0, 5]];
+    for answer in answers.iter() {
+        next_is(&rt, &mut session, &mut budget, Expected::Found(answer))?;
+    }
+    next_is(&rt, &mut session, &mut budget, Expected::NoneLeft)
+}
+
+/// Whether the tree is a constraint over variables of these sets.
+fn is_constraint(tree: &Ground, sets: &[Ranges]) -> bool
+    ensures { IsTrue result → IsConstraint (box_of sets.now) tree.now }
+{
+    truth(tree, sets).is_some()
+}
+
+// Twenty million numbers of the second variable are cut away in a few nodes.
+#[test]
+fn a_defined_variable_is_narrowed(rt: HostRuntime) -> Result<(), Fail> {
+    room_laws();
+    let alloc = rt.alloc();
+    let sets = [
+        Ranges::from_iv(alloc, Iv::new(1, 3))?,
+        Ranges::from_iv(alloc, Iv::new(-10_000_000, 10_000_000))?,
+    ];
+    let constraints = [triple(alloc)?];
+    assert!(rt; is_constraint(&constraints[0], &sets) && size(&constraints[0]) <= 1000);
+    let mut session = PlainSession::open(alloc, &sets, &constraints, declared_order(alloc))?;
+    let mut budget = Budget::new(alloc, 10)?;
+    next_is(&rt, &mut session, &mut budget, Expected::Found(&[1, 3]))?;
+    next_is(&rt, &mut session, &mut budget, Expected::Found(&[2, 6]))?;
+    next_is(&rt, &mut session, &mut budget, Expected::Found(&[3, 9]))?;
+    next_is(&rt, &mut session, &mut budget, Expected::NoneLeft)
+}
+
+// The second variable is halved once and the first twice before the first answer; each of the seven splits and eight
+// answers is a node.
+#[test]
+fn the_lower_half_is_tried_first(rt: HostRuntime) -> Result<(), Fail> {
+    let alloc = rt.alloc();
+    let sets = [
+        Ranges::from_iv(alloc, Iv::new(-1, 2))?,
+        Ranges::from_iv(alloc, Iv::new(5, 6))?,
+    ];
+    let branching = Branching {
+        order: Order::from_vec(vec![in alloc; 1, 0]?),
+        by_size: false,
+        value: ValueChoice::LowerHalf,
+    };
+    let mut session = open_free(alloc, &sets, branching)?;
+    let mut budget = Budget::new(alloc, 15)?;
+    next_is(&rt, &mut session, &mut budget, Expected::Found(&[-1, 5]))?;
+    let _frames = budget.len();
+    assert_eq!(rt; budget.left(0), 11);
+    let answers = [[0, 5], [1, 5], [2, 5], [-1, 6], [0, 6], [1, 6], [2, 6]];
     for answer in answers.iter() {
         next_is(&rt, &mut session, &mut budget, Expected::Found(answer))?;
     }

@@ -86,6 +86,12 @@ fn divides(alloc: Global) -> Result<Ground, AllocError>
     equal(alloc, left, Ground::Num(0))
 }
 
+/// The second variable is three times the first.
+pub fn triple(alloc: Global) -> Result<Ground, AllocError> {
+    let total = product(alloc, Ground::Num(3), Ground::Var(0))?;
+    equal(alloc, Ground::Var(1), total)
+}
+
 /// The trees of a small family of models over x and y.
 pub fn family_tree(alloc: Global, kind: u8) -> Result<Ground, AllocError>
     ensures { IfOk result (IsTruth square) }
