@@ -2,9 +2,11 @@ ghost use Rattle.std.specs.Prelude.{◌≡◌, ◌≤◌, IfOk};
 ghost use Rattle.ms_boxes.specs.Boxes.{Each, IsDeclared, box_of};
 ghost use Rattle.ms_session.specs.Scopes.{live_nodes};
 
-use crate::nodes::Nodes;
+use crate::budget::Budget;
+use crate::nodes::{Nodes, next_nodes};
 use crate::plain_node::box_step;
 use crate::plain_scope::{Parent, PlainScope};
+use crate::session::{Session, Step};
 use ms_base::Point;
 use ms_ground::{Branching, Ground, hull_laws, size};
 use ms_num::{Ranges, Sets};
@@ -43,10 +45,10 @@ impl Model for PlainScopes {
 }
 
 impl PlainScopes {
-    ghost use Rattle.std.specs.Prelude.{◌≡◌, ◌≢◌, ◌≤◌, ◌<◌, ◌+◌, ◌^◌, [], length, All, IfOk, OnOk, OnErr, IsErr, true, option_map};
+    ghost use Rattle.std.specs.Prelude.{◌≡◌, ◌≢◌, ◌≤◌, ◌<◌, ◌+◌, ◌^◌, [], length, All, IfOk, OnOk, OnErr, IsErr, true};
     ghost use Rattle.ms_trees.specs.Size.{size_of};
     ghost use Rattle.ms_boxes.specs.Trees.{IsConstraint};
-    ghost use Rattle.ms_session.specs.Scopes.{IsOpening, NodeGives, Enters, Leaves, Breaks, with_constraint, live_nodes, last_of};
+    ghost use Rattle.ms_session.specs.Scopes.{IsOpening, NodeGives, Enters, with_constraint, live_nodes};
     ghost use Rattle.ms_session.specs.Valid.{IsValidSession};
     ghost use Rattle.ms_boxes.specs.Boxes.{box_of};
     ghost use Rattle.ms_session.specs.Stored.{state_of, KeepsParents};
@@ -75,66 +77,6 @@ impl PlainScopes {
             parents: Vec::new(alloc),
             failed: false,
         })
-    }
-
-    pub fn depth(&self) -> usize
-        ensures { result ≡ length (state_of self.now).parents + 1 }
-    {
-        self.parents.len() + 1
-    }
-
-    pub fn failed(&self) -> bool
-        ensures { result ≡ (state_of self.now).failed }
-    {
-        self.failed
-    }
-
-    pub fn live(&self) -> u64
-        ensures { result ≡ live_nodes (state_of self.now).scope.cons }
-    {
-        self.current.live
-    }
-
-    pub fn last(&self) -> Option<&[i64]>
-        ensures { option_map (λ p. p.now) result ≡ last_of (state_of self.now).scope.given }
-    {
-        match self.current.given.last() {
-            Some(point) => Some(point.as_slice()),
-            None => None,
-        }
-    }
-
-    pub fn enter(&mut self) -> Result<(), AllocError>
-        requires { length (state_of self.old).parents + 1 < 200 }
-        ensures ok { OnOk result (Enters (state_of self.old) (state_of self.new)) }
-        ensures err { OnErr result (Breaks (state_of self.old) (state_of self.new)) }
-    {
-        match self.add_scope() {
-            Ok(()) => Ok(()),
-            Err(refused) => self.fail(refused),
-        }
-    }
-
-    pub fn leave(&mut self)
-        requires { 0 < length (state_of self.old).parents }
-        ensures { Leaves (state_of self.old) (state_of self.new) }
-    {
-        if let Some(parent) = self.parents.pop() {
-            self.constraints.truncate(parent.posted);
-            self.current = parent.scope;
-        }
-    }
-
-    pub fn post(&mut self, constraint: &Ground) -> Result<(), AllocError>
-        requires fit { IsConstraint (state_of self.old).sets constraint.now }
-        requires total { live_nodes (state_of self.old).scope.cons + size_of constraint.now ≤ 2000000 }
-        ensures ok { OnOk result (state_of self.new ≡ with_constraint (state_of self.old) constraint.now) }
-        ensures err { OnErr result (Breaks (state_of self.old) (state_of self.new)) }
-    {
-        match self.add_constraint(constraint) {
-            Ok(()) => Ok(()),
-            Err(refused) => self.fail(refused),
-        }
     }
 
     fn add_scope(&mut self) -> Result<(), AllocError>
@@ -186,6 +128,56 @@ impl PlainScopes {
     {
         self.failed = true;
         Err(refused)
+    }
+}
+
+impl Session for PlainScopes {
+    ghost use Rattle.ms_session.specs.Stored.{state_of};
+
+    ghost state = { λ s. state_of s };
+
+    fn depth(&self) -> usize {
+        self.parents.len() + 1
+    }
+
+    fn failed(&self) -> bool {
+        self.failed
+    }
+
+    fn live(&self) -> u64 {
+        self.current.live
+    }
+
+    fn last(&self) -> Option<&[i64]> {
+        match self.current.given.last() {
+            Some(point) => Some(point.as_slice()),
+            None => None,
+        }
+    }
+
+    fn enter(&mut self) -> Result<(), AllocError> {
+        match self.add_scope() {
+            Ok(()) => Ok(()),
+            Err(refused) => self.fail(refused),
+        }
+    }
+
+    fn leave(&mut self) {
+        if let Some(parent) = self.parents.pop() {
+            self.constraints.truncate(parent.posted);
+            self.current = parent.scope;
+        }
+    }
+
+    fn post(&mut self, g: &Ground) -> Result<(), AllocError> {
+        match self.add_constraint(g) {
+            Ok(()) => Ok(()),
+            Err(refused) => self.fail(refused),
+        }
+    }
+
+    fn next(&mut self, budget: &mut Budget) -> Result<Step, AllocError> {
+        next_nodes(self, budget)
     }
 }
 

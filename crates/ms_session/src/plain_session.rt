@@ -6,7 +6,6 @@ ghost use Rattle.ms_boxes.specs.Boxes.{box_of};
 ghost use Rattle.ms_session.specs.Stored.{state_of};
 
 use crate::budget::Budget;
-use crate::nodes::next_nodes;
 use crate::plain_scopes::PlainScopes;
 use crate::session::{Session, Step};
 use ms_ground::{Branching, Ground};
@@ -88,6 +87,6 @@ impl Session for PlainSession {
     }
 
     fn next(&mut self, budget: &mut Budget) -> Result<Step, AllocError> {
-        next_nodes(&mut self.scopes, budget)
+        self.scopes.next(budget)
     }
 }

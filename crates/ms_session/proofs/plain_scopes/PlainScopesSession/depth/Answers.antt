@@ -1,7 +1,7 @@
 use Rattle.std.proofs.Common.{◌≡◌, ◌∙◌, ◌+◌, ap, sym, length}
 use Rattle.ms_session.specs.Stored.{state_of}
 use Rattle.ms_session.proofs.Stacks.{parents_length}
-use Rattle.ms_session.proofs.plain_scopes.PlainScopes.depth.Goals as goal
+use Rattle.ms_session.proofs.plain_scopes.PlainScopesSession.depth.Goals as goal
 
 pub returns : goal.returns
 returns c =

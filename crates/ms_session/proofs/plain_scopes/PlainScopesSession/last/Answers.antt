@@ -2,7 +2,7 @@ use Rattle.std.proofs.Common.{◌≡◌, ◌∙◌, ap, sym, Some, length, ◌-�
 use Rattle.std.specs.Prelude.{slice_get}
 use Rattle.ms_session.specs.Scopes.{last_of}
 use Rattle.ms_session.proofs.Beginnings.{last_at}
-use Rattle.ms_session.proofs.plain_scopes.PlainScopes.last.Goals as goal
+use Rattle.ms_session.proofs.plain_scopes.PlainScopesSession.last.Goals as goal
 
 pub returns-in-Some : goal.returns-in-Some
 returns-in-Some c =
