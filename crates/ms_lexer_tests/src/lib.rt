@@ -2,7 +2,7 @@
 //! and `ms_lexer`.
 //!
 //! The tests stand in a crate of their own, so that those three are proved once. [`rows`] has
-//! worked rows of the definitions themselves: what they give for tokens and trees that are written
+//! worked examples of the definitions themselves: what they give for tokens and trees that are written
 //! out, proved and not run.
 #![tactic(auto)]
 
