@@ -1,4 +1,3 @@
-pub mod Held
 pub mod Entries
 pub mod Known
 pub mod Reporting

@@ -1,5 +1,5 @@
 -- One turn of the loop over all of the bytes, and its exit at a fault.
-use Rattle.std.proofs.Common.{◌≡◌, ℕ, zero, suc, ◌+◌, ◌-◌, ◌<◌, List, [], ◌∷◌, ◌++◌, length, take, drop, Option, Some, None, Result, Ok, Err, Vec, refl, sym, ap, ◌∙◌, subst, arith, length-drop}
+use Rattle.std.proofs.Common.{◌≡◌, ℕ, zero, suc, ◌+◌, ◌-◌, ◌<◌, ◌≤◌, List, [], ◌∷◌, ◌++◌, length, take, drop, Option, Some, None, Result, Ok, Err, Vec, refl, sym, ap, ◌∙◌, subst, arith, length-drop}
 use Rattle.std.specs.Prelude.{fold, IfOk, IfErr}
 use Rattle.std.specs.declared.alloc.Global.{Global}
 use Rattle.std.proofs.Math.Seq.{take-add}
@@ -15,9 +15,9 @@ use Rattle.ms_lexer.specs.declared.fault.FormError.TheVariants as e
 use Rattle.ms_syntax.specs.declared.token.LexKind.{LexKind}
 use Rattle.ms_syntax.specs.declared.token.LexKind.TheVariants as kind
 use Rattle.ms_syntax.specs.Form.{Form, blank, token, form}
-use Rattle.ms_lexer.specs.Reading.{piece_of, piece, Shows, FaultIs, FaultAt, IsFault, IsAmong, GivesTokens, GivesFault}
+use Rattle.ms_lexer.specs.Reading.{piece_of, piece, Shows, FaultIs, FaultAt, IsFault, IsAmong, IsWithin, GivesTokens, GivesFault}
 use Rattle.ms_syntax.specs.Cut.{Cuts, IsMore, IsPiece, size, spanned, next_place, place_behind, HasTokens, HasFault}
-use Rattle.ms_syntax.proofs.SharedCuts.{cuts_more, spanned_more, sizes, sizes_more, one_list, none_beside, one_fault, fault_within}
+use Rattle.ms_syntax.proofs.SharedCuts.{cuts_more, spanned_more, sizes, sizes_more, one_list, none_beside, one_fault}
 
 pub more_of : (bytes : List ℕ) (start : ℕ) → start < length bytes → IsMore (drop start bytes)
 more_of [] start h = absurd (omega arith)
@@ -99,10 +99,10 @@ gives_fault file bytes (Err (f.OpenText n)) ok fault x k h = let same = one_faul
 gives_fault file bytes (Err (f.OpenComment n)) ok fault x k h = let same = one_fault bytes x kind.OpenComment k n h fault in same_fault k n x kind.OpenComment (f.OpenComment n) same.0 same.1 refl
 gives_fault file bytes (Err (f.BigNumber n)) ok fault x k h = let same = one_fault bytes x kind.BigNumber k n h fault in same_fault k n x kind.BigNumber (f.BigNumber n) same.0 same.1 refl
 
-pub among : (bytes : List ℕ) (r : Result (Vec Spanned Global) LexFault) → IfErr r (λ e. FaultIs bytes e) → IfErr r (λ e. IsAmong (length bytes) e)
-among bytes (Ok v) fault = tt
-among bytes (Err f.Memory) fault = tt
-among bytes (Err (f.BadByte k)) fault = fault_within bytes kind.BadByte k fault
-among bytes (Err (f.OpenText k)) fault = fault_within bytes kind.OpenText k fault
-among bytes (Err (f.OpenComment k)) fault = fault_within bytes kind.OpenComment k fault
-among bytes (Err (f.BigNumber k)) fault = fault_within bytes kind.BigNumber k fault
+pub among_here : (n m start : ℕ) (x : LexFault) (y : FormError) → FaultAt x y start → IsWithin m y → start + m ≤ n → IsAmong n x
+among_here n m start f.Memory y at w h = tt
+among_here n m start (f.BadByte k) (e.Fault kind.BadByte i) at w h = omega (arith, at, w, h)
+among_here n m start (f.OpenText k) (e.Fault kind.OpenText i) at w h = omega (arith, at, w, h)
+among_here n m start (f.OpenComment k) (e.Fault kind.OpenComment i) at w h = omega (arith, at, w, h)
+among_here n m start (f.BigNumber k) (e.Fault kind.BigNumber i) at w h = omega (arith, at, w, h)
+among_here n m start _ _ at w h = absurd at

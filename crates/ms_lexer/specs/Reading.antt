@@ -37,10 +37,10 @@ piece_of (Some x) n = token x n
 abbrev pub piece : Option Token × ℕ → Form
 piece x = piece_of x.0 x.1
 
--- the byte of a fault is among the bytes, or right behind them
+-- the byte of a fault is one of so many
 abbrev pub IsWithin : ℕ → FormError → Type 0
 IsWithin n e.Memory = Unit {0}
-IsWithin n (e.Fault k m) = m ≤ n
+IsWithin n (e.Fault k m) = m < n
 
 -- ---- all bytes
 

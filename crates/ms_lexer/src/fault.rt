@@ -24,7 +24,7 @@ pub enum LexFault {
 }
 
 /// Why nothing is read at the front of some bytes, with how far behind the front the byte is.
-#[derive(Clone, Copy, Debug, PartialEq, Eq)]
+#[derive(Clone, Copy)]
 pub enum FormError {
     Fault(LexKind, usize),
     Memory,

@@ -31,6 +31,7 @@ fn cut(alloc: Global, file: u8, bytes: &[u8]) -> Result<Vec<Spanned>, LexFault>
     requires { length bytes.now ≤ FILE_LIMIT }
     ensures ok { IfOk result (λ v. HasTokens file bytes.now v.items) }
     ensures fault { IfErr result (λ e. FaultIs bytes.now e) }
+    ensures within { IfErr result (λ e. IsAmong (length bytes.now) e) }
 {
     let mut found = Vec::new(alloc);
     let mut start = 0;

@@ -6,8 +6,9 @@
 //!
 //! Promised: the answer is the one token list that the bytes have, or the first thing that cannot
 //! be taken, with its kind and byte; only want of memory may take its place. [`place_of`] turns
-//! the byte of a fault into the line and the column that a user reads. Not promised by a contract:
-//! that the time is linear in the bytes, and that each text is copied once.
+//! the byte of a fault into the line and the column that a user reads, and [`token_place`] the
+//! number of a token. Not promised by a contract: that the time is linear in the bytes, and that
+//! each text is copied once.
 #![tactic(auto)]
 
 mod bytes;
@@ -22,4 +23,4 @@ mod word;
 
 pub use fault::LexFault;
 pub use lexer::tokens;
-pub use place::place_of;
+pub use place::{place_of, token_place};

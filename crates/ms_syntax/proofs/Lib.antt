@@ -1,16 +1,5 @@
-pub mod Blanks
 pub mod Cuts
-pub mod Decided
-pub mod Exists
-pub mod Faults
-pub mod Keywords
 pub mod OneAnswer
 pub mod Placed
-pub mod Runs
 pub mod SharedAnswers
 pub mod SharedCuts
-pub mod SharedForms
-pub mod Spelled
-pub mod Symbols
-pub mod Texts
-pub mod Written

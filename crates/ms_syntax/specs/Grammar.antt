@@ -17,7 +17,7 @@ use Rattle.ms_syntax.specs.declared.tree.Sign.TheVariants as g
 use Rattle.ms_syntax.specs.declared.tree.Mode.{Mode}
 use Rattle.ms_syntax.specs.declared.tree.Mode.TheVariants as m
 use Rattle.ms_syntax.specs.Tree as x
-use Rattle.ms_syntax.specs.Tree.{Names, Ex, Maybe, Exs, Links, Arms, Rows, Subscripts, Gens, Decls, Decl, Kd, Bs, Indices, Notes, Params, Gl, It, Items, Pairs, of_concat, of_product, of_sum, of_range, of_membership, of_comparison, of_conjunction, of_disjunction, of_implication, of_equivalence}
+use Rattle.ms_syntax.specs.Tree.{Names, Ex, Maybe, Exs, Links, Arms, Rows, Subscripts, Gens, Decls, Decl, Kd, Bs, Indices, Notes, Params, Gl, It, Items, Pairs, of_concat, of_product, of_sum, of_range, of_membership, of_comparison, of_conjunction, of_disjunction, of_implication, of_equivalence, of_let}
 
 -- ---- lists of tokens
 
@@ -167,7 +167,7 @@ WritesMode m.Par = word k.Par
 
 abbrev mutual
   pub Writes : Ex → Tokens → Type 0
-  Writes (x.let_in p ds c e) = at p (t.Keyword k.Let) ⋅ mark s.OpenBrace ⋅ WritesDecls ds c ⋅ mark s.CloseBrace ⋅ word k.In ⋅ bound 12 e (Writes e)
+  Writes (x.let_in p ds c e) = at p (t.Keyword k.Let) ⋅ mark s.OpenBrace ⋅ WritesDecls ds c ⋅ mark s.CloseBrace ⋅ word k.In ⋅ bound of_let e (Writes e)
   Writes (x.chain n e ls) = where_so (IsChain ls) (bound n e (Writes e) ⋅ WritesLinks n ls)
   Writes (x.prefix p g e) = at p (mark_of g) ⋅ bound 1 e (Writes e)
   Writes (x.access p e is) = from p (where_so (HasSubscript is) (bound 0 e (Writes e) ⋅ WritesSubscripts is))
@@ -229,11 +229,11 @@ abbrev mutual
 
   pub WritesGens : Gens → Tokens → Type 0
   WritesGens x.no_gens = none
-  WritesGens (x.gen ns e more) = (WritesNames ns ⋅ word k.In ⋅ bound 6 e (Writes e)) ⋅ WritesMoreGens more
+  WritesGens (x.gen ns e more) = (WritesNames ns ⋅ word k.In ⋅ bound of_membership e (Writes e)) ⋅ WritesMoreGens more
 
   pub WritesMoreGens : Gens → Tokens → Type 0
   WritesMoreGens x.no_gens = nothing
-  WritesMoreGens (x.gen ns e more) = mark s.Comma ⋅ (WritesNames ns ⋅ word k.In ⋅ bound 6 e (Writes e)) ⋅ WritesMoreGens more
+  WritesMoreGens (x.gen ns e more) = mark s.Comma ⋅ (WritesNames ns ⋅ word k.In ⋅ bound of_membership e (Writes e)) ⋅ WritesMoreGens more
 
   -- with semicolons between, and one at the end or not
   pub WritesDecls : Decls → Bool → Tokens → Type 0
@@ -263,7 +263,7 @@ abbrev mutual
 
   pub WritesIndex : Maybe → Tokens → Type 0
   WritesIndex x.absent = word k.Int
-  WritesIndex (x.present e) = bound 6 e (Writes e)
+  WritesIndex (x.present e) = bound of_membership e (Writes e)
 
   pub WritesBase : Bs → Tokens → Type 0
   WritesBase x.of_bool = word k.Bool
@@ -271,8 +271,8 @@ abbrev mutual
   WritesBase x.of_string = word k.String
   WritesBase x.of_ann = word k.Ann
   WritesBase x.set_of_int = word k.Set ⋅ word k.Of ⋅ word k.Int
-  WritesBase (x.set_of e) = word k.Set ⋅ word k.Of ⋅ bound 6 e (Writes e)
-  WritesBase (x.of_values e) = bound 6 e (Writes e)
+  WritesBase (x.set_of e) = word k.Set ⋅ word k.Of ⋅ bound of_membership e (Writes e)
+  WritesBase (x.of_values e) = bound of_membership e (Writes e)
 
   pub WritesNotes : Notes → Tokens → Type 0
   WritesNotes x.no_notes = nothing

@@ -1,6 +1,4 @@
-pub mod Blank
 pub mod Cut
-pub mod Failing
 pub mod Form
 pub mod Gathering
 pub mod Grammar
@@ -8,5 +6,4 @@ pub mod Grouping
 pub mod Keywords
 pub mod Token
 pub mod OneAnswer
-pub mod Spelling
 pub mod Tree

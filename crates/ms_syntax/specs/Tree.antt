@@ -188,6 +188,10 @@ of_implication = 10
 abbrev pub of_equivalence : ℕ
 of_equivalence = 11
 
+-- what the body of a `let` binds at most
+abbrev pub of_let : ℕ
+of_let = 12
+
 -- ---- one level of each type, with what is inside already seen
 
 abbrev pub one_link : Operator × Place × Ex → Links

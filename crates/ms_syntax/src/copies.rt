@@ -1,6 +1,6 @@
 //! Copies of trees. Contracts see a tree as plain data, and a copy is the same data.
 
-ghost use Rattle.std.specs.Prelude.{◌≡◌, IfOk, map, option_map};
+ghost use Rattle.std.specs.Prelude.{◌≡◌, IfOk, Ok, map, option_map};
 ghost use Rattle.ms_syntax.specs.Tree.{arm_view, base_view, declaration_view, ex_view};
 ghost use Rattle.ms_syntax.specs.Tree.{generator_view, generators_view, index_view, kind_view};
 ghost use Rattle.ms_syntax.specs.Tree.{link_view, note_view, row_view, subscript_view};
@@ -32,95 +32,107 @@ impl Expr {
         ensures { IfOk result (λ copied. ex_view copied ≡ ex_view self.now) }
     {
         match self {
-            Expr::Let(place, declarations, closed, body) => Ok(Expr::Let(
-                *place,
-                copy_declarations(alloc, declarations)?,
-                *closed,
-                copy_box(alloc, body)?,
-            )),
+            Expr::Let(place, declarations, closed, body) => {
+                let declarations = copy_declarations(alloc, declarations);
+                let (declarations, body) = both(declarations, copy_box(alloc, body))?;
+                Ok(Expr::Let(*place, declarations, *closed, body))
+            }
             Expr::Equivalence(first, links) => {
-                let links = copy_links(alloc, links)?;
-                Ok(Expr::Equivalence(copy_box(alloc, first)?, links))
+                let (links, first) = both(copy_links(alloc, links), copy_box(alloc, first))?;
+                Ok(Expr::Equivalence(first, links))
             }
             Expr::Implication(first, links) => {
-                let links = copy_links(alloc, links)?;
-                Ok(Expr::Implication(copy_box(alloc, first)?, links))
+                let (links, first) = both(copy_links(alloc, links), copy_box(alloc, first))?;
+                Ok(Expr::Implication(first, links))
             }
             Expr::Disjunction(first, links) => {
-                let links = copy_links(alloc, links)?;
-                Ok(Expr::Disjunction(copy_box(alloc, first)?, links))
+                let (links, first) = both(copy_links(alloc, links), copy_box(alloc, first))?;
+                Ok(Expr::Disjunction(first, links))
             }
             Expr::Conjunction(first, links) => {
-                let links = copy_links(alloc, links)?;
-                Ok(Expr::Conjunction(copy_box(alloc, first)?, links))
+                let (links, first) = both(copy_links(alloc, links), copy_box(alloc, first))?;
+                Ok(Expr::Conjunction(first, links))
             }
-            Expr::Comparison(first, link) => Ok(Expr::Comparison(
-                copy_box(alloc, first)?,
-                copy_link_box(alloc, link)?,
-            )),
-            Expr::Membership(first, link) => Ok(Expr::Membership(
-                copy_box(alloc, first)?,
-                copy_link_box(alloc, link)?,
-            )),
-            Expr::Range(first, link) => Ok(Expr::Range(
-                copy_box(alloc, first)?,
-                copy_link_box(alloc, link)?,
-            )),
+            Expr::Comparison(first, link) => {
+                let (first, link) = both(copy_box(alloc, first), copy_link_box(alloc, link))?;
+                Ok(Expr::Comparison(first, link))
+            }
+            Expr::Membership(first, link) => {
+                let (first, link) = both(copy_box(alloc, first), copy_link_box(alloc, link))?;
+                Ok(Expr::Membership(first, link))
+            }
+            Expr::Range(first, link) => {
+                let (first, link) = both(copy_box(alloc, first), copy_link_box(alloc, link))?;
+                Ok(Expr::Range(first, link))
+            }
             Expr::Sum(first, links) => {
-                let links = copy_links(alloc, links)?;
-                Ok(Expr::Sum(copy_box(alloc, first)?, links))
+                let (links, first) = both(copy_links(alloc, links), copy_box(alloc, first))?;
+                Ok(Expr::Sum(first, links))
             }
             Expr::Product(first, links) => {
-                let links = copy_links(alloc, links)?;
-                Ok(Expr::Product(copy_box(alloc, first)?, links))
+                let (links, first) = both(copy_links(alloc, links), copy_box(alloc, first))?;
+                Ok(Expr::Product(first, links))
             }
             Expr::Concatenation(first, links) => {
-                let links = copy_links(alloc, links)?;
-                Ok(Expr::Concatenation(copy_box(alloc, first)?, links))
+                let (links, first) = both(copy_links(alloc, links), copy_box(alloc, first))?;
+                Ok(Expr::Concatenation(first, links))
             }
             Expr::Prefix(place, sign, operand) => {
                 Ok(Expr::Prefix(*place, *sign, copy_box(alloc, operand)?))
             }
             Expr::Access(place, array, subscripts) => {
-                let subscripts = copy_subscripts(alloc, subscripts)?;
-                Ok(Expr::Access(*place, copy_box(alloc, array)?, subscripts))
+                let subscripts = copy_subscripts(alloc, subscripts);
+                let (subscripts, array) = both(subscripts, copy_box(alloc, array))?;
+                Ok(Expr::Access(*place, array, subscripts))
             }
             Expr::Number(place, number) => Ok(Expr::Number(*place, *number)),
             Expr::Text(place, text) => Ok(Expr::Text(*place, text.copy(alloc)?)),
             Expr::Truth(place, value) => Ok(Expr::Truth(*place, *value)),
             Expr::Name(place, name) => Ok(Expr::Name(*place, name.copy(alloc)?)),
-            Expr::Call(place, name, arguments) => Ok(Expr::Call(
-                *place,
-                name.copy(alloc)?,
-                copy_exprs(alloc, arguments)?,
-            )),
-            Expr::GeneratorCall(place, name, generators, body) => Ok(Expr::GeneratorCall(
-                *place,
-                name.copy(alloc)?,
-                copy_generators(alloc, generators)?,
-                copy_box(alloc, body)?,
-            )),
+            Expr::Call(place, name, arguments) => {
+                let (name, arguments) = both(name.copy(alloc), copy_exprs(alloc, arguments))?;
+                Ok(Expr::Call(*place, name, arguments))
+            }
+            Expr::GeneratorCall(place, name, generators, body) => {
+                let parts = both(copy_generators(alloc, generators), copy_box(alloc, body));
+                let (name, (generators, body)) = both(name.copy(alloc), parts)?;
+                Ok(Expr::GeneratorCall(*place, name, generators, body))
+            }
             Expr::Parenthesis(place, inner) => {
                 Ok(Expr::Parenthesis(*place, copy_box(alloc, inner)?))
             }
             Expr::Array(place, elements) => {
                 Ok(Expr::Array(*place, copy_exprs(alloc, elements)?))
             }
-            Expr::Comprehension(place, element, generators) => Ok(Expr::Comprehension(
-                *place,
-                copy_box(alloc, element)?,
-                copy_generators(alloc, generators)?,
-            )),
+            Expr::Comprehension(place, element, generators) => {
+                let generators = copy_generators(alloc, generators);
+                let (generators, element) = both(generators, copy_box(alloc, element))?;
+                Ok(Expr::Comprehension(*place, element, generators))
+            }
             Expr::Rows(place, rows) => Ok(Expr::Rows(*place, copy_rows(alloc, rows)?)),
             Expr::Set(place, elements) => Ok(Expr::Set(*place, copy_exprs(alloc, elements)?)),
             Expr::If(place, condition, branch, arms, last) => {
-                let arms = copy_arms(alloc, arms)?;
-                let condition = copy_box(alloc, condition)?;
-                let branch = copy_box(alloc, branch)?;
-                let last = copy_box(alloc, last)?;
+                let arms = both(copy_arms(alloc, arms), copy_box(alloc, last));
+                let first = both(copy_box(alloc, condition), copy_box(alloc, branch));
+                let ((arms, last), (condition, branch)) = both(arms, first)?;
                 Ok(Expr::If(*place, condition, branch, arms, last))
             }
         }
+    }
+}
+
+/// Both parts of a node, unless memory fails for one. A part that is held where the other may fail
+/// would be let go there, in code that is made anew for each such place.
+fn both<A: Drop, B: Drop>(
+    first: Result<A, AllocError>,
+    second: Result<B, AllocError>,
+) -> Result<(A, B), AllocError>
+    ensures { IfOk result (λ pair. (first ≡ Ok pair.0) × (second ≡ Ok pair.1)) }
+{
+    match (first, second) {
+        (Ok(first), Ok(second)) => Ok((first, second)),
+        (Err(refused), _) => Err(refused),
+        (_, Err(refused)) => Err(refused),
     }
 }
 
@@ -187,10 +199,8 @@ fn copy_arms(alloc: Global, arms: &[Arm]) -> Result<Vec<Arm>, AllocError>
 {
     let mut all = Vec::new(alloc);
     for arm in arms {
-        all.push(Arm {
-            condition: arm.condition.copy(alloc)?,
-            branch: arm.branch.copy(alloc)?,
-        })?;
+        let (condition, branch) = both(arm.condition.copy(alloc), arm.branch.copy(alloc))?;
+        all.push(Arm { condition, branch })?;
     }
     Ok(all)
 }
@@ -215,10 +225,9 @@ fn copy_subscripts(alloc: Global, subscripts: &[Subscript]) -> Result<Vec<Subscr
 {
     let mut all = Vec::new(alloc);
     for subscript in subscripts {
-        all.push(Subscript {
-            first: subscript.first.copy(alloc)?,
-            second: copy_maybe(alloc, &subscript.second)?,
-        })?;
+        let second = copy_maybe(alloc, &subscript.second);
+        let (first, second) = both(subscript.first.copy(alloc), second)?;
+        all.push(Subscript { first, second })?;
     }
     Ok(all)
 }
@@ -233,10 +242,8 @@ fn copy_generator_list(
 {
     let mut all = Vec::new(alloc);
     for generator in generators {
-        all.push(Generator {
-            names: generator.names.copy(alloc)?,
-            set: generator.set.copy(alloc)?,
-        })?;
+        let (names, set) = both(generator.names.copy(alloc), generator.set.copy(alloc))?;
+        all.push(Generator { names, set })?;
     }
     Ok(all)
 }
@@ -245,13 +252,15 @@ fn copy_generator_list(
 fn copy_generators(alloc: Global, generators: &Generators) -> Result<Generators, AllocError>
     ensures { IfOk result (λ copied. generators_view copied ≡ generators_view generators.now) }
 {
-    let list = copy_generator_list(alloc, &generators.list)?;
+    let list = copy_generator_list(alloc, &generators.list);
     match &generators.condition {
         Some(condition) => {
-            let condition = Some(copy_box(alloc, condition)?);
+            let (list, condition) = both(list, copy_box(alloc, condition))?;
+            let condition = Some(condition);
             Ok(Generators { list, condition })
         }
         None => {
+            let list = list?;
             let condition = None;
             Ok(Generators { list, condition })
         }
@@ -262,12 +271,20 @@ fn copy_generators(alloc: Global, generators: &Generators) -> Result<Generators,
 fn copy_declaration(alloc: Global, declaration: &Declaration) -> Result<Declaration, AllocError>
     ensures { IfOk result (λ copied. declaration_view copied ≡ declaration_view declaration.now) }
 {
+    let place = declaration.place;
+    let what = both(
+        copy_kind(alloc, &declaration.kind),
+        declaration.name.copy(alloc),
+    );
+    let notes = copy_notes(alloc, &declaration.notes);
+    let behind = both(notes, copy_maybe(alloc, &declaration.value));
+    let ((kind, name), (notes, value)) = both(what, behind)?;
     Ok(Declaration {
-        place: declaration.place,
-        kind: copy_kind(alloc, &declaration.kind)?,
-        name: declaration.name.copy(alloc)?,
-        notes: copy_notes(alloc, &declaration.notes)?,
-        value: copy_maybe(alloc, &declaration.value)?,
+        place,
+        kind,
+        name,
+        notes,
+        value,
     })
 }
 
@@ -290,10 +307,13 @@ fn copy_declarations(
 fn copy_kind(alloc: Global, kind: &Kind) -> Result<Kind, AllocError>
     ensures { IfOk result (λ copied. kind_view copied ≡ kind_view kind.now) }
 {
+    let mode = kind.mode;
+    let indices = copy_indices(alloc, &kind.indices);
+    let (indices, base) = both(indices, copy_base(alloc, &kind.base))?;
     Ok(Kind {
-        indices: copy_indices(alloc, &kind.indices)?,
-        mode: kind.mode,
-        base: copy_base(alloc, &kind.base)?,
+        indices,
+        mode,
+        base,
     })
 }
 
@@ -339,10 +359,12 @@ fn copy_notes(alloc: Global, notes: &[Note]) -> Result<Vec<Note>, AllocError>
 {
     let mut all = Vec::new(alloc);
     for note in notes {
+        let place = note.place;
+        let (name, arguments) = both(note.name.copy(alloc), copy_exprs(alloc, &note.arguments))?;
         all.push(Note {
-            place: note.place,
-            name: note.name.copy(alloc)?,
-            arguments: copy_exprs(alloc, &note.arguments)?,
+            place,
+            name,
+            arguments,
         })?;
     }
     Ok(all)

@@ -1,15 +1,10 @@
 //! Tokens of MiniZinc texts with their places, and the grammar: which tokens a tree is written as.
 //!
 //! Of bytes: `specs/` has the longest form that stands at the front of some bytes (`Form`, maximal
-//! munch), and the relation between bytes and their list of tokens, and their first fault (`Cut`).
-//! Beside them, as relations that do not know that function: how each token may be written
-//! (`Spelling`), what white space and comments are (`Blank`), and what stands where nothing can be
-//! taken (`Failing`). The laws tie the two. What the function `form` finds is what the rules say
-//! ([`longest_form`]), and the rules decide what it finds ([`decided_form`]): a blank of one byte
-//! or more exactly where `IsBlank` says so, a fault exactly where `Fails` does, and a token
-//! exactly where one is spelled, none has a longer spelling there, and nothing fails. So a reader
-//! of the rules needs no look at `form`. The laws on bytes and their list of tokens are the
-//! contracts of [`one_reading`], [`some_reading`] and [`spaced_tokens`].
+//! munch), and the relation between bytes and their list of tokens, and their first fault (`Cut`):
+//! bytes have one list or one first fault at most ([`one_reading`]). That the forms are what rules
+//! say that do not know the cut, and that all bytes have tokens or a fault, are laws of `ms_forms`,
+//! a crate above that no program needs.
 //!
 //! Of tokens: `Grammar` has the tokens that each tree writes, a node at a time, and from them
 //! alone what the first token is that cannot stand at its place (`SyntaxAt`: the tokens before it
@@ -29,9 +24,7 @@ mod place;
 mod token;
 mod tree;
 
-pub use laws::{
-    chain_places, decided_form, longest_form, one_answer, one_reading, some_reading, spaced_tokens,
-};
+pub use laws::{chain_places, one_answer, one_reading};
 pub use names::Binders;
 pub use token::{FileNo, Keyword, LexKind, Place, Spanned, Symbol, Token, Word};
 pub use tree::{

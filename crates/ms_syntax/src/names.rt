@@ -6,7 +6,7 @@ use std::alloc::{AllocError, Global};
 use std::marker::Model;
 
 /// The names of a generator, one at least. Contracts see their list.
-#[derive(Debug, Drop)]
+#[derive(Drop)]
 pub struct Binders {
     list: Vec<Binder>,
 }

@@ -228,7 +228,7 @@ pub enum Symbol {
     Bar,
 }
 
-#[derive(Debug, Drop)]
+#[derive(Drop)]
 pub enum Token {
     /// A letter, then letters, digits and `_`; not a keyword.
     Name(Word),
@@ -267,7 +267,7 @@ impl Token {
 }
 
 /// A token with the bytes that it stands on: from `start` up to but not at `end`.
-#[derive(Debug, Drop)]
+#[derive(Drop)]
 pub struct Spanned {
     pub token: Token,
     pub start: usize,

@@ -6,4 +6,3 @@ pub mod Gathering
 pub mod Outcome
 pub mod Refusing
 pub mod TextLemmas
-pub mod TokenPlaces

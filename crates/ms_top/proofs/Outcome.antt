@@ -12,7 +12,7 @@ use Rattle.ms_syntax.specs.Cut.{HasTokens, HasFault, place_behind}
 use Rattle.ms_top.specs.declared.plain.PlainModel.{PlainModel}
 use Rattle.ms_top.specs.declared.status.Fault.{Fault}
 use Rattle.ms_top.specs.declared.status.Fault.TheVariants.{LongFile, Lex, Syntax, Deep, Form}
-use Rattle.ms_top.specs.Places.{IsTokenPlace, byte_of}
+use Rattle.ms_lexer.specs.Places.{IsTokenPlace, byte_of}
 use Rattle.ms_top.specs.Plain.{HasTree, IsPlain, plain_of}
 use Rattle.ms_top.specs.Faults.{HasLexFault, IsAccepted, IsFaulty, IsLong, IsShort}
 

@@ -10,7 +10,7 @@ use Rattle.ms_syntax.specs.Cut.{HasTokens, HasFault, place_behind}
 use Rattle.ms_top.specs.declared.plain.PlainModel.{PlainModel}
 use Rattle.ms_top.specs.declared.status.Fault.{Fault}
 use Rattle.ms_top.specs.declared.status.Fault.TheVariants.{LongFile, Lex, Syntax, Deep, Form}
-use Rattle.ms_top.specs.Places.{IsTokenPlace}
+use Rattle.ms_lexer.specs.Places.{IsTokenPlace}
 use Rattle.ms_top.specs.Plain.{HasTree, IsPlain, IsPlainText}
 
 abbrev pub IsShort : List ℕ → Type 0

@@ -1,7 +1,6 @@
 pub mod Answer
 pub mod Exit
 pub mod Faults
-pub mod Places
 pub mod Plain
 pub mod Reading
 pub mod Refusal

@@ -14,12 +14,11 @@ ghost use Rattle.ms_top.specs.Words.{AsksFor, IsMissing};
 
 use crate::form::{Unread, plain_model};
 use crate::limits::is_small;
-use crate::places::token_place;
 use crate::plain::PlainModel;
 use crate::status::{Fault, Status};
 use ms_base::FILE_LIMIT;
 use ms_io::{FileFault, Files};
-use ms_lexer::{LexFault, place_of, tokens};
+use ms_lexer::{LexFault, place_of, token_place, tokens};
 use ms_parser::{ParseFault, model};
 use ms_syntax::{FileNo, LexKind, Spanned, Tree};
 use std::alloc::Global;

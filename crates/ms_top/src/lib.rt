@@ -20,7 +20,6 @@ mod enumerate;
 mod form;
 mod laws;
 mod limits;
-mod places;
 mod plain;
 mod program;
 mod report;

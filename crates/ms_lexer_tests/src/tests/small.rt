@@ -1,13 +1,14 @@
 //! The small types: bytes, points, names, words, single tokens and copies of trees.
 
 use ms_base::{Bytes, Name, Point};
+use ms_forms::{decided_form, longest_form, some_reading, spaced_tokens};
 use ms_syntax::{
     Base, Binder, Binders, Declaration, Expr, Generator, Item, Keyword, Kind, Link, Mode, Operator,
-    Place, Symbol, Token, Word, chain_places, decided_form, longest_form, one_answer, one_reading,
-    some_reading, spaced_tokens,
+    Place, Symbol, Token, Word, chain_places, one_answer, one_reading,
 };
 use std::alloc::{AllocError, Global};
 use std::cmp::Ordering;
+use std::hash::{DefaultHasher, Hash, Hasher};
 use std::test::Fail;
 
 #[test]
@@ -27,6 +28,12 @@ fn lists_are_kept(rt: HostRuntime) -> Result<(), Fail> {
     Ok(())
 }
 
+fn digest(word: &Word) -> u64 {
+    let mut state = DefaultHasher::new();
+    word.hash(&mut state);
+    state.finish()
+}
+
 #[test]
 fn words_and_tokens(rt: HostRuntime) -> Result<(), Fail> {
     let word = Word::from_slice(rt.alloc(), b"queens")?;
@@ -35,6 +42,9 @@ fn words_and_tokens(rt: HostRuntime) -> Result<(), Fail> {
     let other = Word::from_vec(vec![in rt.alloc(); 120, 49]?);
     assert!(rt; word != other);
     assert!(rt; word.cmp(&other) == Ordering::Less);
+    assert!(rt; other.partial_cmp(&word) == Some(Ordering::Greater));
+    assert!(rt; digest(&word) == digest(&word.copy(rt.alloc())?));
+    assert!(rt; digest(&word) != digest(&other));
     assert_eq!(rt; other.into_vec().as_slice(), b"x1".as_slice());
     assert!(rt; Token::Symbol(Symbol::And).is_symbol(Symbol::And));
     assert!(rt; !Token::Number(7).is_symbol(Symbol::And));

@@ -1,7 +1,7 @@
 use Rattle.std.proofs.Common.{◌≡◌, ◌-◌, length, drop, take, ap, ◌∙◌, arith, length-drop, length-take, ◌++◌, ◌∷◌, []}
 use Rattle.ms_lexer.specs.Reading.{piece_of}
 use Rattle.ms_syntax.specs.Cut.{spanned}
-use Rattle.ms_lexer.proofs.Steps.{fault_here, cut_step, sizes_step, blank_step, token_step, place_step}
+use Rattle.ms_lexer.proofs.Steps.{among_here, fault_here, cut_step, sizes_step, blank_step, token_step, place_step}
 use Rattle.ms_lexer.proofs.lexer.cut.Goals as goal
 use Rattle.ms_lexer.proofs.lexer.cut.Goals.{in-Some+in_ok-push-in-Some, in-None}
 
@@ -9,6 +9,14 @@ pub returns-in-Err-clause-fault : goal.returns-in-Err-clause-fault
 returns-in-Err-clause-fault c =
     let inv = c.loop-start.invariant in
     fault_here c.args.bytes.now inv.forms c.loop-start.start c.fault_at.result c.in-Err.e inv.cut (omega arith) c.fault_at.ensures c.in-Err.ensures.form
+
+pub returns-in-Err-clause-within : goal.returns-in-Err-clause-within
+returns-in-Err-clause-within c =
+    let all = c.args.bytes.now in
+    let start = c.loop-start.start in
+    let rest = take (length all - start) (drop start all) in
+    let rest_len : length rest ≡ length all - start = omega (arith, length-take (length all - start) (drop start all), length-drop start all) in
+    among_here (length all) (length rest) start c.fault_at.result c.in-Err.e c.fault_at.ensures c.in-Err.ensures.offset (omega (arith, rest_len))
 
 pub loop-start-preserved : goal.loop-start-preserved
 loop-start-preserved c =

@@ -1,4 +1,4 @@
-use Rattle.ms_lexer.proofs.Steps.{gives_tokens, gives_fault, among}
+use Rattle.ms_lexer.proofs.Steps.{gives_tokens, gives_fault}
 use Rattle.ms_lexer.proofs.lexer.tokens.Goals as goal
 
 pub returns-clause-accepts : goal.returns-clause-accepts
@@ -6,6 +6,3 @@ returns-clause-accepts c = gives_tokens c.args.file c.args.bytes.now c.cut.resul
 
 pub returns-clause-refuses : goal.returns-clause-refuses
 returns-clause-refuses c = gives_fault c.args.file c.args.bytes.now c.cut.result c.cut.ensures.ok c.cut.ensures.fault
-
-pub returns-clause-within : goal.returns-clause-within
-returns-clause-within c = among c.args.bytes.now c.cut.result c.cut.ensures.fault

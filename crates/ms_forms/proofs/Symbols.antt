@@ -7,8 +7,8 @@ use Rattle.ms_syntax.specs.declared.token.Symbol.{Symbol}
 use Rattle.ms_syntax.specs.declared.token.Symbol.TheVariants as s
 use Rattle.ms_syntax.specs.declared.token.LexKind.{LexKind}
 use Rattle.ms_syntax.specs.Form.{Form, blank, token, fault, form, symbol, one, two, byte_at}
-use Rattle.ms_syntax.specs.Spelling.{Spells, IsNumber, symbol_bytes}
-use Rattle.ms_syntax.proofs.Runs.{same_eqb}
+use Rattle.ms_forms.specs.Spelling.{Spells, IsNumber, symbol_bytes}
+use Rattle.ms_forms.proofs.Runs.{same_eqb}
 
 -- the token that was found is spelled by the bytes that it takes, white space and comments take some, and a fault is at one of the bytes
 unfoldable pub IsSpelled : List ℕ → Form → Type 0

@@ -10,11 +10,11 @@ use Rattle.ms_syntax.specs.declared.token.Symbol.TheVariants as s
 use Rattle.ms_syntax.specs.declared.token.LexKind.{LexKind}
 use Rattle.ms_syntax.specs.declared.token.LexKind.TheVariants.{BadByte, OpenText, OpenComment, BigNumber}
 use Rattle.ms_syntax.specs.Form.{Form, blank, token, fault, form, word, word_of, keyword, number, number_of, max_number, sticks_to_number, text, comment, symbol, run, byte_at, is_white, is_letter, is_digit, is_plain, escape, with_some, is_name_byte, is_in_line}
-use Rattle.ms_syntax.specs.Spelling.{Spells, IsDigits, IsNumber, Means, nothing, itself, escaped}
-use Rattle.ms_syntax.specs.Blank.{HoldsNoClose}
-use Rattle.ms_syntax.specs.Failing.{Fails, too_big, stuck, open_text, not_in_text, no_escape, open_comment, no_token}
-use Rattle.ms_syntax.proofs.Runs.{both, and_left, and_right, same_eqb, run_begins, run_all}
-use Rattle.ms_syntax.proofs.Spelled.{number_by, no_token_at_fault}
+use Rattle.ms_forms.specs.Spelling.{Spells, IsDigits, IsNumber, Means, nothing, itself, escaped}
+use Rattle.ms_forms.specs.Blank.{HoldsNoClose}
+use Rattle.ms_forms.specs.Failing.{Fails, too_big, stuck, open_text, not_in_text, no_escape, open_comment, no_token}
+use Rattle.ms_forms.proofs.Runs.{both, and_left, and_right, same_eqb, run_begins, run_all}
+use Rattle.ms_forms.proofs.Spelled.{number_by, no_token_at_fault}
 
 -- a fault of the form is one that the bytes fail by
 IsFailing : List ℕ → Form → Type 0

@@ -8,12 +8,12 @@ use Rattle.ms_syntax.specs.declared.token.Token.TheVariants as t
 use Rattle.ms_syntax.specs.declared.token.LexKind.TheVariants.{OpenComment}
 use Rattle.ms_syntax.specs.Form.{blank, token, fault, form, word, word_of, keyword, number, text, comment, symbol, run, byte_at, is_white, is_letter, is_digit, is_name_byte, is_in_line, max_number}
 use Rattle.ms_syntax.specs.Cut.{size}
-use Rattle.ms_syntax.specs.Spelling.{Spells}
-use Rattle.ms_syntax.specs.Blank.{IsBlank, IsLineEnd, HoldsNoClose, white_byte, line_comment, closed_comment}
-use Rattle.ms_syntax.proofs.Runs.{tested, both, and_left, and_right, same_eqb, digit_range, run_cons, run_front, run_stop, run_within, run_all}
-use Rattle.ms_syntax.proofs.Texts.{IsText, text_is}
-use Rattle.ms_syntax.proofs.Spelled.{no_token_at_blank}
-use Rattle.ms_syntax.proofs.Faults.{close_free, nothing_held, symbol_no_blank}
+use Rattle.ms_forms.specs.Spelling.{Spells}
+use Rattle.ms_forms.specs.Blank.{IsBlank, IsLineEnd, HoldsNoClose, white_byte, line_comment, closed_comment}
+use Rattle.ms_forms.proofs.Runs.{tested, both, and_left, and_right, same_eqb, digit_range, run_cons, run_front, run_stop, run_within, run_all}
+use Rattle.ms_forms.proofs.Texts.{IsText, text_is}
+use Rattle.ms_forms.proofs.Spelled.{no_token_at_blank}
+use Rattle.ms_forms.proofs.Faults.{close_free, nothing_held, symbol_no_blank}
 
 -- ---- comments up to the end of the line
 

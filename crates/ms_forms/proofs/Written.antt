@@ -12,10 +12,10 @@ use Rattle.ms_syntax.specs.declared.token.Token.TheVariants as t
 use Rattle.ms_syntax.specs.declared.token.Spanned.{Spanned}
 use Rattle.ms_syntax.specs.Form.{Form, blank, token, fault, is_digit, is_plain, escape, max_number}
 use Rattle.ms_syntax.specs.Cut.{Cuts, spanned, HasTokens}
-use Rattle.ms_syntax.specs.Spelling.{Spells, AllSpell, spaced, Means, nothing, itself, escaped, IsWellFormed, written, quoted, may_be_meant}
-use Rattle.ms_syntax.proofs.Runs.{both, and_left, and_right, same_eqb, digit_range}
-use Rattle.ms_syntax.proofs.Spelled.{spelled}
-use Rattle.ms_syntax.proofs.Exists.{spaced_tokens}
+use Rattle.ms_forms.specs.Spelling.{Spells, AllSpell, spaced, Means, nothing, itself, escaped, IsWellFormed, written, quoted, may_be_meant}
+use Rattle.ms_forms.proofs.Runs.{both, and_left, and_right, same_eqb, digit_range}
+use Rattle.ms_forms.proofs.Spelled.{spelled}
+use Rattle.ms_forms.proofs.Exists.{spaced_tokens}
 
 -- ---- numbers
 

@@ -8,9 +8,9 @@ use Rattle.ms_syntax.specs.declared.token.Spanned.{Spanned}
 use Rattle.ms_syntax.specs.declared.token.LexKind.{LexKind}
 use Rattle.ms_syntax.specs.Form.{Form, blank, token, fault, form}
 use Rattle.ms_syntax.specs.Cut.{Cuts, IsMore, IsPiece, size, spanned, HasTokens, HasFault}
-use Rattle.ms_syntax.specs.Spelling.{Spells, AllSpell, spaced}
-use Rattle.ms_syntax.proofs.Symbols.{IsSpelled, end, space}
-use Rattle.ms_syntax.proofs.Spelled.{form_spelled, form_taken, spells_some, fault_among}
+use Rattle.ms_forms.specs.Spelling.{Spells, AllSpell, spaced}
+use Rattle.ms_forms.proofs.Symbols.{IsSpelled, end, space}
+use Rattle.ms_forms.proofs.Spelled.{form_spelled, form_taken, spells_some, fault_among}
 
 -- ---- existence
 

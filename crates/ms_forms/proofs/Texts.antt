@@ -6,8 +6,8 @@ use Rattle.std.proofs.lemmas.List.{append-nil}
 use Rattle.ms_syntax.specs.declared.token.Token.TheVariants as t
 use Rattle.ms_syntax.specs.declared.token.LexKind.TheVariants.{BadByte}
 use Rattle.ms_syntax.specs.Form.{Form, blank, token, fault, text, escape, is_plain, with_some}
-use Rattle.ms_syntax.specs.Spelling.{Means, nothing, itself, escaped}
-use Rattle.ms_syntax.proofs.Runs.{same_eqb}
+use Rattle.ms_forms.specs.Spelling.{Means, nothing, itself, escaped}
+use Rattle.ms_forms.proofs.Runs.{same_eqb}
 
 plain_no_quote : (b : ℕ) → is_plain b ≡ true → (b == 34) ≡ false
 plain_no_quote b h = grind (arith, nat_tests)

@@ -9,15 +9,15 @@ use Rattle.ms_syntax.specs.declared.token.Token.TheVariants as t
 use Rattle.ms_syntax.specs.declared.token.LexKind.{LexKind}
 use Rattle.ms_syntax.specs.declared.token.LexKind.TheVariants.{BadByte, OpenText, OpenComment, BigNumber}
 use Rattle.ms_syntax.specs.Form.{Form, blank, token, fault, form, number_of, max_number, sticks_to_number, text, run, byte_at, is_white, is_digit, is_plain, with_some}
-use Rattle.ms_syntax.specs.Spelling.{Spells, IsDigits, Means}
-use Rattle.ms_syntax.specs.Blank.{IsLineEnd, HoldsNoClose}
-use Rattle.ms_syntax.specs.Failing.{Fails, BeginsNoEscape, too_big, stuck, open_text, not_in_text, no_escape, open_comment, no_token}
-use Rattle.ms_syntax.proofs.Runs.{and_left, ne_eqb, run_front, run_stop}
-use Rattle.ms_syntax.proofs.Texts.{text_goes}
-use Rattle.ms_syntax.proofs.Symbols.{IsSpelled, end}
-use Rattle.ms_syntax.proofs.Spelled.{number_by, digits_form, byte_behind, form_spelled, form_taken, spelled, longest, no_token_at_blank}
-use Rattle.ms_syntax.proofs.Faults.{fails}
-use Rattle.ms_syntax.proofs.Blanks.{blanks, blank_begins, comment_unclosed, digit_spells}
+use Rattle.ms_forms.specs.Spelling.{Spells, IsDigits, Means}
+use Rattle.ms_forms.specs.Blank.{IsLineEnd, HoldsNoClose}
+use Rattle.ms_forms.specs.Failing.{Fails, BeginsNoEscape, too_big, stuck, open_text, not_in_text, no_escape, open_comment, no_token}
+use Rattle.ms_forms.proofs.Runs.{and_left, ne_eqb, run_front, run_stop}
+use Rattle.ms_forms.proofs.Texts.{text_goes}
+use Rattle.ms_forms.proofs.Symbols.{IsSpelled, end}
+use Rattle.ms_forms.proofs.Spelled.{number_by, digits_form, byte_behind, form_spelled, form_taken, spelled, longest, no_token_at_blank}
+use Rattle.ms_forms.proofs.Faults.{fails}
+use Rattle.ms_forms.proofs.Blanks.{blanks, blank_begins, comment_unclosed, digit_spells}
 
 -- ---- numbers
 

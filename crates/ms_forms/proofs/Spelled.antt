@@ -11,11 +11,11 @@ use Rattle.ms_syntax.specs.declared.token.Symbol.{Symbol}
 use Rattle.ms_syntax.specs.declared.token.LexKind.{LexKind}
 use Rattle.ms_syntax.specs.declared.token.LexKind.TheVariants.{BadByte, OpenComment, BigNumber}
 use Rattle.ms_syntax.specs.Form.{Form, blank, token, fault, form, word, word_of, keyword, number, number_of, max_number, sticks_to_number, text, comment, run, byte_at, is_letter, is_digit, is_name_byte, is_in_line}
-use Rattle.ms_syntax.specs.Spelling.{Spells, IsWord, IsDigits, IsNumber, Means, keyword_bytes}
-use Rattle.ms_syntax.proofs.Runs.{both, and_left, and_right, same_eqb, letter_name_byte, form_word, form_number, run_front, run_stop, run_some, run_within, run_all, run_begins}
-use Rattle.ms_syntax.proofs.Keywords.{keyword_found, keyword_word, keyword_none, word_spells}
-use Rattle.ms_syntax.proofs.Texts.{IsText, text_is, text_read}
-use Rattle.ms_syntax.proofs.Symbols.{IsSpelled, Reaches, choose_spelled, fault_spelled, blank_spelled, token_spelled, token_reaches, fault_reaches, symbol_spelled, symbol_reached, double_equal_reached, Gap, end, space, symbol_taken, double_equal_taken}
+use Rattle.ms_forms.specs.Spelling.{Spells, IsWord, IsDigits, IsNumber, Means, keyword_bytes}
+use Rattle.ms_forms.proofs.Runs.{both, and_left, and_right, same_eqb, letter_name_byte, form_word, form_number, run_front, run_stop, run_some, run_within, run_all, run_begins}
+use Rattle.ms_forms.proofs.Keywords.{keyword_found, keyword_word, keyword_none, word_spells}
+use Rattle.ms_forms.proofs.Texts.{IsText, text_is, text_read}
+use Rattle.ms_forms.proofs.Symbols.{IsSpelled, Reaches, choose_spelled, fault_spelled, blank_spelled, token_spelled, token_reaches, fault_reaches, symbol_spelled, symbol_reached, double_equal_reached, Gap, end, space, symbol_taken, double_equal_taken}
 
 -- ---- words
 

@@ -7,7 +7,7 @@ use Rattle.ms_syntax.specs.declared.token.Keyword.{Keyword}
 use Rattle.ms_syntax.specs.declared.token.Keyword.TheVariants as k
 use Rattle.ms_syntax.specs.Keywords.{keyword_bytes, all_keywords, keyword_among}
 use Rattle.ms_syntax.specs.Form.{keyword, word_of}
-use Rattle.ms_syntax.specs.Spelling.{IsWord, Spells}
+use Rattle.ms_forms.specs.Spelling.{IsWord, Spells}
 
 pub keyword_found : (x : Keyword) → keyword (keyword_bytes x) ≡ Some x
 unfolding keyword

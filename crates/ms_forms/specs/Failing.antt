@@ -4,8 +4,8 @@ use Rattle.ms_syntax.specs.declared.token.Token.{Token}
 use Rattle.ms_syntax.specs.declared.token.LexKind.{LexKind}
 use Rattle.ms_syntax.specs.declared.token.LexKind.TheVariants.{BadByte, OpenText, OpenComment, BigNumber}
 use Rattle.ms_syntax.specs.Form.{is_white, is_plain, escape, number_of, max_number, sticks_to_number, byte_at}
-use Rattle.ms_syntax.specs.Blank.{IsLineEnd, HoldsNoClose}
-use Rattle.ms_syntax.specs.Spelling.{Spells, IsDigits, Means}
+use Rattle.ms_forms.specs.Blank.{IsLineEnd, HoldsNoClose}
+use Rattle.ms_forms.specs.Spelling.{Spells, IsDigits, Means}
 
 -- what a backslash before these bytes would begin is no escape
 abbrev pub BeginsNoEscape : List ℕ → Type 0

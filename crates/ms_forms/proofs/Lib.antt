@@ -1,0 +1,10 @@
+mod Blanks
+mod Decided
+mod Exists
+mod Faults
+mod Keywords
+mod Runs
+mod Spelled
+mod Symbols
+mod Texts
+mod Written
