@@ -5,7 +5,7 @@ use Rattle.ms_syntax.specs.Tree as x
 use Rattle.ms_syntax.specs.Tree.{Ex, Kd, Notes, Maybe}
 use Rattle.ms_syntax.specs.Grammar.{Tokens}
 use Rattle.ms_expressions.specs.declared.reach.Reach.{Reach}
-use Rattle.ms_expressions.specs.Reading.{Out, ok, bad, deep, Parser, and_then, pure, into, place_at}
+use Rattle.ms_cursor.specs.Reading.{Out, ok, bad, deep, Parser, and_then, pure, into, place_at}
 use Rattle.ms_expressions.specs.Rules.{kind, declared, declaration}
 
 module _ (e : ℕ) (inner inmost : Reach → Parser Ex) where

@@ -6,11 +6,12 @@ use denote.Ref.{MutBor}
 use Rattle.ms_syntax.specs.declared.tree.Expr.{Expr}
 use Rattle.ms_syntax.specs.Tree.{Ex}
 use Rattle.ms_syntax.specs.Grammar.{Tokens}
-use Rattle.ms_expressions.specs.declared.stop.Stop.{Stop}
-use Rattle.ms_expressions.specs.declared.stop.Stop.TheVariants.{Syntax, Deep, Memory}
+use Rattle.ms_cursor.specs.declared.stop.Stop.{Stop}
+use Rattle.ms_cursor.specs.declared.stop.Stop.TheVariants.{Syntax, Deep, Memory}
 use Rattle.ms_expressions.specs.declared.reach.Reach.{Reach}
-use Rattle.ms_expressions.specs.Reading.{Out, ok, bad, deep, deeper, Parser, and_then}
-use Rattle.ms_expressions.specs.Reads.{Nests, Fails}
+use Rattle.ms_cursor.specs.Reading.{Out, ok, bad, deep, deeper, Parser, and_then}
+use Rattle.ms_cursor.specs.Reads.{Fails}
+use Rattle.ms_expressions.specs.Nests.{Nests}
 use Rattle.ms_expressions.specs.Rules.{under, reads, nested, inmost, locals, tier, behind}
 
 pub nested_one : (d : ℕ) → (nested (suc d)).1 ≡ under d

@@ -9,10 +9,10 @@ use Rattle.ms_syntax.specs.Tree as x
 use Rattle.ms_syntax.specs.Tree.{Ex, Decl, decls_of}
 use Rattle.ms_syntax.specs.Grammar.{Tokens}
 use Rattle.ms_expressions.specs.declared.reach.Reach.{Reach}
-use Rattle.ms_expressions.specs.Level.{height}
-use Rattle.ms_expressions.specs.declared.level.Level.TheVariants as lv
-use Rattle.ms_expressions.specs.Kinds.{symbol, keyword}
-use Rattle.ms_expressions.specs.Reading.{ok, Parser, must, enter}
+use Rattle.ms_cursor.specs.Level.{height}
+use Rattle.ms_cursor.specs.declared.level.Level.TheVariants as lv
+use Rattle.ms_cursor.specs.Kinds.{symbol, keyword}
+use Rattle.ms_cursor.specs.Reading.{ok, Parser, must, enter}
 use Rattle.ms_expressions.specs.Rules.{locals, local, tier, signed}
 
 pub let_read : (d : ℕ) (inner inmost : Reach → Parser Ex) (p : Place) (ts t2 t3 t4 t5 : Tokens) (c w : Unit {0} × Spanned) (r : List Decl × Bool) (e : Ex) → enter d (symbol s.OpenBrace) ts ≡ ok c t2

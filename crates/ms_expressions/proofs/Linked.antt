@@ -8,12 +8,12 @@ use Rattle.ms_syntax.specs.declared.tree.Operator.{Operator}
 use Rattle.ms_syntax.specs.Tree as x
 use Rattle.ms_syntax.specs.Tree.{Ex, links_of}
 use Rattle.ms_syntax.specs.Grammar.{Tokens}
-use Rattle.ms_expressions.specs.declared.stop.Stop.{Stop}
-use Rattle.ms_expressions.specs.declared.stop.Stop.TheVariants.{Syntax, Deep, Memory}
-use Rattle.ms_expressions.specs.Reading.{Out, ok, Parser, and_then, pure, into, pick, front, after, many_to, grown}
-use Rattle.ms_expressions.specs.Reads.{Fails}
-use Rattle.ms_expressions.specs.Kinds.{infix_of}
-use Rattle.ms_expressions.specs.Level.{is_single}
+use Rattle.ms_cursor.specs.declared.stop.Stop.{Stop}
+use Rattle.ms_cursor.specs.declared.stop.Stop.TheVariants.{Syntax, Deep, Memory}
+use Rattle.ms_cursor.specs.Reading.{Out, ok, Parser, and_then, pure, into, pick, front, after, many_to, grown}
+use Rattle.ms_cursor.specs.Reads.{Fails}
+use Rattle.ms_cursor.specs.Kinds.{infix_of}
+use Rattle.ms_cursor.specs.Level.{is_single}
 use Rattle.ms_expressions.specs.Rules.{behind, one_more, links, chained}
 use Rattle.ms_expressions.proofs.Loops.{each_step, each_stop, each_fails}
 

@@ -6,13 +6,13 @@ use Rattle.ms_syntax.specs.declared.token.Symbol.TheVariants as s
 use Rattle.ms_syntax.specs.Tree as x
 use Rattle.ms_syntax.specs.Tree.{Ex, exs_of, gens_of, rows_of}
 use Rattle.ms_syntax.specs.Grammar.{Tokens}
-use Rattle.ms_expressions.specs.declared.stop.Stop.{Stop}
-use Rattle.ms_expressions.specs.declared.stop.Stop.TheVariants.{Syntax, Deep, Memory}
+use Rattle.ms_cursor.specs.declared.stop.Stop.{Stop}
+use Rattle.ms_cursor.specs.declared.stop.Stop.TheVariants.{Syntax, Deep, Memory}
 use Rattle.ms_expressions.specs.declared.reach.Reach.{Reach}
 use Rattle.ms_expressions.specs.declared.reach.Reach.TheVariants as reach
-use Rattle.ms_expressions.specs.Kinds.{symbol}
-use Rattle.ms_expressions.specs.Reading.{Out, ok, bad, deep, Parser, and_then, ◌>>=◌, pure, many, grown, separated, pair, into}
-use Rattle.ms_expressions.specs.Reads.{Reads, Fails}
+use Rattle.ms_cursor.specs.Kinds.{symbol}
+use Rattle.ms_cursor.specs.Reading.{Out, ok, bad, deep, Parser, and_then, ◌>>=◌, pure, many, grown, separated, pair, into}
+use Rattle.ms_cursor.specs.Reads.{Reads, Fails}
 use Rattle.ms_expressions.specs.Rules.{a_binder, more_names, names, more, list, generator, more_generators, generators, more_rows, row_list}
 use Rattle.ms_expressions.proofs.Loops.{then_grown}
 

@@ -5,12 +5,12 @@ use Rattle.ms_syntax.specs.declared.token.Symbol.TheVariants as s
 use Rattle.ms_syntax.specs.Tree.{Ex, Decl}
 use Rattle.ms_syntax.specs.Grammar.{Tokens}
 use Rattle.std.proofs.lemmas.List.{append-nil}
-use Rattle.ms_expressions.specs.declared.stop.Stop.{Stop}
-use Rattle.ms_expressions.specs.declared.stop.Stop.TheVariants.{Syntax, Deep, Memory}
+use Rattle.ms_cursor.specs.declared.stop.Stop.{Stop}
+use Rattle.ms_cursor.specs.declared.stop.Stop.TheVariants.{Syntax, Deep, Memory}
 use Rattle.ms_expressions.specs.declared.reach.Reach.{Reach}
-use Rattle.ms_expressions.specs.Reads.{Fails}
-use Rattle.ms_expressions.specs.Reading.{Out, ok, bad, deep, Parser, and_then, ◌>>=◌, pure, pick, front, after, by, must, into, skip}
-use Rattle.ms_expressions.specs.Kinds.{symbol}
+use Rattle.ms_cursor.specs.Reads.{Fails}
+use Rattle.ms_cursor.specs.Reading.{Out, ok, bad, deep, Parser, and_then, ◌>>=◌, pure, pick, front, after, by, must, into, skip}
+use Rattle.ms_cursor.specs.Kinds.{symbol}
 use Rattle.ms_expressions.specs.Rules.{Turn, item, last, declaration, more_locals, local_turn}
 
 -- the values that were found, before those of the outcome

@@ -7,13 +7,13 @@ use Rattle.ms_syntax.specs.declared.token.Symbol.TheVariants as s
 use Rattle.ms_syntax.specs.Tree as x
 use Rattle.ms_syntax.specs.Tree.{Ex, Maybe, exs_of, subscripts_of}
 use Rattle.ms_syntax.specs.Grammar.{Tokens}
-use Rattle.ms_expressions.specs.declared.stop.Stop.{Stop}
-use Rattle.ms_expressions.specs.declared.stop.Stop.TheVariants.{Syntax, Deep, Memory}
+use Rattle.ms_cursor.specs.declared.stop.Stop.{Stop}
+use Rattle.ms_cursor.specs.declared.stop.Stop.TheVariants.{Syntax, Deep, Memory}
 use Rattle.ms_expressions.specs.declared.reach.Reach.{Reach}
 use Rattle.ms_expressions.specs.declared.reach.Reach.TheVariants as reach
-use Rattle.ms_expressions.specs.Kinds.{symbol}
-use Rattle.ms_expressions.specs.Reading.{Out, ok, bad, deep, Parser, and_then, pure, pick, front, after, must, many, grown, place_at}
-use Rattle.ms_expressions.specs.Reads.{Fails}
+use Rattle.ms_cursor.specs.Kinds.{symbol}
+use Rattle.ms_cursor.specs.Reading.{Out, ok, bad, deep, Parser, and_then, pure, pick, front, after, must, many, grown, place_at}
+use Rattle.ms_cursor.specs.Reads.{Fails}
 use Rattle.ms_expressions.specs.Rules.{more, array_rest, atom, opened_subscript, subscripts, accessed, accessing}
 
 -- an array that ends at once

@@ -1,5 +1,2 @@
-pub mod Reading
-pub mod Kinds
-pub mod Level
 pub mod Rules
-pub mod Reads
+pub mod Nests

@@ -11,12 +11,12 @@ use Rattle.ms_syntax.specs.declared.tree.Mode.{Mode}
 use Rattle.ms_syntax.specs.declared.tree.Mode.TheVariants as m
 use Rattle.ms_syntax.specs.Tree as x
 use Rattle.ms_syntax.specs.Tree.{of_membership, Names, Ex, Maybe, Exs, Links, Arms, Rows, Subscripts, Gens, Decls, Decl, Kd, Bs, Indices, Notes, Params, Gl, It, exs_of, links_of, arms_of, rows_of, subscripts_of, gens_of, decls_of, notes_of}
-use Rattle.ms_expressions.specs.Level.{height, is_single}
-use Rattle.ms_expressions.specs.declared.level.Level.TheVariants as lv
+use Rattle.ms_cursor.specs.Level.{height, is_single}
+use Rattle.ms_cursor.specs.declared.level.Level.TheVariants as lv
 use Rattle.ms_expressions.specs.declared.reach.Reach.{Reach}
 use Rattle.ms_expressions.specs.declared.reach.Reach.TheVariants as reach
-use Rattle.ms_expressions.specs.Reading.{Parser, ◌>>=◌, pure, fail, by, must, deeper, opening, many, sealed, placed, pair, into, skip, closing, enter}
-use Rattle.ms_expressions.specs.Kinds.{a_number, a_text, a_name, a_truth, a_sign, symbol, keyword, infix_of}
+use Rattle.ms_cursor.specs.Reading.{Parser, ◌>>=◌, pure, fail, by, must, deeper, opening, many, sealed, placed, pair, into, skip, closing, enter}
+use Rattle.ms_cursor.specs.Kinds.{a_number, a_text, a_name, a_truth, a_sign, symbol, keyword, infix_of}
 
 -- ---- names that generators declare
 

@@ -4,14 +4,14 @@ ghost use Rattle.std.specs.Prelude.{◌≡◌};
 ghost use Rattle.ms_syntax.specs.Tree.{ex_view, exs_view, gens_view, subscript_view};
 ghost use Rattle.ms_syntax.specs.declared.tree.Subscript.{Subscript};
 ghost use Rattle.ms_syntax.specs.Tree.{Ex, Maybe};
-ghost use Rattle.ms_expressions.specs.Reads.{Reads, Nests};
+ghost use Rattle.ms_cursor.specs.Reads.{Reads};
+ghost use Rattle.ms_expressions.specs.Nests.{Nests};
 ghost use Rattle.ms_expressions.specs.Rules as spec;
 
-use crate::cursor::Cursor;
 use crate::generators::into_generators;
 use crate::grammar::{Grammar, Part};
 use crate::reach::Reach;
-use crate::stop::Stop;
+use ms_cursor::{Cursor, Stop};
 use ms_syntax::{Expr, Generator, Generators, Keyword, Place, Subscript, Symbol, Word};
 use std::alloc::Global;
 

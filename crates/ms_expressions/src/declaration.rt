@@ -7,18 +7,18 @@ ghost use Rattle.ms_syntax.specs.Tree as tree;
 ghost use Rattle.ms_syntax.specs.Tree.{Kd, parameter_view, ex_view, exs_view, index_view};
 ghost use Rattle.ms_syntax.specs.Tree.{indices_view, base_view, kind_view, note_view, notes_view};
 ghost use Rattle.ms_syntax.specs.Tree.{maybe_view, declaration_view};
-ghost use Rattle.ms_expressions.specs.Reading.{many, into as into_of};
-ghost use Rattle.ms_expressions.specs.Reads.{Reads, Nests, turn_view};
+ghost use Rattle.ms_cursor.specs.Reading.{many, into as into_of};
+ghost use Rattle.ms_cursor.specs.Reads.{Reads};
+ghost use Rattle.ms_expressions.specs.Nests.{Nests, turn_view};
 ghost use Rattle.ms_expressions.specs.Rules as spec;
-ghost use Rattle.ms_expressions.specs.Kinds as kinds;
+ghost use Rattle.ms_cursor.specs.Kinds as kinds;
 ghost use Rattle.ms_expressions.specs.declared.reach.Reach.TheVariants as reach;
 ghost use Rattle.ms_syntax.specs.declared.token.Symbol.TheVariants as s;
 
-use crate::cursor::Cursor;
 use crate::grammar::{Grammar, Part};
 use crate::reach::Reach;
-use crate::stop::Stop;
 use crate::turn::Turn;
+use ms_cursor::{Cursor, Stop};
 use ms_syntax::{
     Base, Declaration, Expr, Index, Keyword, Kind, Mode, Note, Parameter, Place, Symbol, Word,
 };

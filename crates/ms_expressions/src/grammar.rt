@@ -3,17 +3,16 @@
 
 ghost use Rattle.std.specs.Prelude.{◌≡◌, ◌<◌, map, vec_len, IfOk};
 ghost use Rattle.ms_syntax.specs.Tree.{Ex, ex_view};
-ghost use Rattle.ms_expressions.specs.Reading.{Parser, deeper, enter, many, grown, separated};
-ghost use Rattle.ms_expressions.specs.Reads.{Reads, Nests};
+ghost use Rattle.ms_cursor.specs.Reading.{Parser, deeper, enter, many, grown, separated};
+ghost use Rattle.ms_cursor.specs.Reads.{Reads};
+ghost use Rattle.ms_expressions.specs.Nests.{Nests};
 ghost use Rattle.ms_expressions.specs.Rules as spec;
-ghost use Rattle.ms_expressions.specs.Kinds as kinds;
+ghost use Rattle.ms_cursor.specs.Kinds as kinds;
 ghost use Rattle.ms_expressions.specs.declared.grammar.Grammar.{Grammar};
 ghost use Rattle.ms_expressions.specs.declared.reach.Reach.TheVariants as reach;
 
-use crate::cursor::Cursor;
-use crate::mark::Mark;
 use crate::reach::Reach;
-use crate::stop::Stop;
+use ms_cursor::{Cursor, Mark, Stop};
 use ms_syntax::{Expr, Spanned, Symbol};
 use std::alloc::Global;
 

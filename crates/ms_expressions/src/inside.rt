@@ -6,13 +6,13 @@ ghost use Rattle.ms_syntax.specs.Tree.{Ex, Exs, Maybe, Names, ex_view, exs_view,
 ghost use Rattle.ms_syntax.specs.Tree.{rows_of, names_view, binder_view, generator_view};
 ghost use Rattle.ms_syntax.specs.Tree.{generators_view, subscript_view, arm_view, row_view};
 ghost use Rattle.ms_syntax.specs.Tree.{maybe_view, maybe_of};
-ghost use Rattle.ms_expressions.specs.Reads.{Reads, Nests};
+ghost use Rattle.ms_cursor.specs.Reads.{Reads};
+ghost use Rattle.ms_expressions.specs.Nests.{Nests};
 ghost use Rattle.ms_expressions.specs.Rules as spec;
 
-use crate::cursor::Cursor;
 use crate::grammar::{Grammar, Part};
 use crate::reach::Reach;
-use crate::stop::Stop;
+use ms_cursor::{Cursor, Stop};
 use ms_syntax::{
     Arm, Binder, Binders, Expr, Generator, Generators, Keyword, Place, Row, Subscript, Symbol,
 };

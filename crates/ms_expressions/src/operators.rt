@@ -3,17 +3,16 @@
 ghost use Rattle.std.specs.Prelude.{◌≡◌, ◌≤◌, true, false, suc, map, IfOk};
 ghost use Rattle.ms_syntax.specs.Tree.{ex_view, link_view, links_view};
 ghost use Rattle.ms_syntax.specs.Tree as tree;
-ghost use Rattle.ms_expressions.specs.Reading.{many, into as into_of};
-ghost use Rattle.ms_expressions.specs.Reads.{Reads, Nests};
-ghost use Rattle.ms_expressions.specs.Level.{tighter, height, operands_of, is_single};
+ghost use Rattle.ms_cursor.specs.Reading.{many, into as into_of};
+ghost use Rattle.ms_cursor.specs.Reads.{Reads};
+ghost use Rattle.ms_expressions.specs.Nests.{Nests};
+ghost use Rattle.ms_cursor.specs.Level.{tighter, height, operands_of, is_single};
 ghost use Rattle.ms_expressions.specs.Rules as spec;
-ghost use Rattle.ms_expressions.specs.Kinds as kinds;
+ghost use Rattle.ms_cursor.specs.Kinds as kinds;
 
-use crate::cursor::Cursor;
 use crate::grammar::Grammar;
-use crate::level::Level;
 use crate::reach::Reach;
-use crate::stop::Stop;
+use ms_cursor::{Cursor, Level, Stop};
 use ms_syntax::{Expr, Link};
 use std::alloc::{AllocError, Global};
 

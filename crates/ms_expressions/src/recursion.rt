@@ -2,15 +2,14 @@
 
 ghost use Rattle.std.specs.Prelude.{◌≡◌, ◌<◌, ◌-◌, ◌^◌, suc, pred, map};
 ghost use Rattle.ms_syntax.specs.Tree.{ex_view, declaration_view};
-ghost use Rattle.ms_expressions.specs.Reads.{Reads, Nests};
+ghost use Rattle.ms_cursor.specs.Reads.{Reads};
+ghost use Rattle.ms_expressions.specs.Nests.{Nests};
 ghost use Rattle.ms_expressions.specs.Rules as spec;
 ghost use Rattle.ms_expressions.specs.declared.reach.Reach.TheVariants as reach;
 
-use crate::cursor::Cursor;
 use crate::grammar::Grammar;
-use crate::level::Level;
 use crate::reach::Reach;
-use crate::stop::Stop;
+use ms_cursor::{Cursor, Level, Stop};
 use ms_syntax::{Declaration, Expr, Keyword, Place, Symbol};
 use std::alloc::Global;
 

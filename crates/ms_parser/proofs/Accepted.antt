@@ -12,8 +12,8 @@ use Rattle.ms_parser.proofs.Nested.{under_exact}
 use Rattle.std.specs.Prelude.{Result}
 use Rattle.ms_syntax.specs.declared.tree.Expr.{Expr}
 use Rattle.ms_syntax.specs.Tree.{ex_view}
-use Rattle.ms_expressions.specs.declared.stop.Stop.{Stop}
-use Rattle.ms_expressions.specs.Reads.{Reads}
+use Rattle.ms_cursor.specs.declared.stop.Stop.{Stop}
+use Rattle.ms_cursor.specs.Reads.{Reads}
 use Rattle.ms_parser.proofs.Law as law
 use Rattle.ms_parser.proofs.Answered as t
 

@@ -3,11 +3,11 @@ use Rattle.std.proofs.Common.{◌≡◌, Bool, ℕ, [], ◌-◌, length, ap, sub
 use Rattle.std.specs.Prelude.{Result, Ok, Err, IfOk}
 use Rattle.ms_syntax.specs.declared.token.Token.{Token}
 use Rattle.ms_syntax.specs.Grammar.{Tokens, IsShallow, SyntaxAt, DeepAt}
-use Rattle.ms_syntax.proofs.OneAnswer.{one_answer}
-use Rattle.ms_expressions.specs.declared.stop.Stop.{Stop}
-use Rattle.ms_expressions.specs.declared.stop.Stop.TheVariants as stop
-use Rattle.ms_expressions.specs.Reading.{Parser, ◌>>=◌, finish}
-use Rattle.ms_expressions.specs.Reads.{Reads}
+use Rattle.ms_syntax.proofs.SharedAnswers.{one_answer}
+use Rattle.ms_cursor.specs.declared.stop.Stop.{Stop}
+use Rattle.ms_cursor.specs.declared.stop.Stop.TheVariants as stop
+use Rattle.ms_cursor.specs.Reading.{Parser, ◌>>=◌, finish}
+use Rattle.ms_cursor.specs.Reads.{Reads}
 use Rattle.ms_parser.specs.declared.fault.ParseFault.{ParseFault}
 use Rattle.ms_parser.specs.declared.fault.ParseFault.TheVariants.{Syntax, Deep}
 use Rattle.ms_parser.specs.Answers.{GivesUnlessMemory, FailsUnlessMemory, IsWithin, from_front}

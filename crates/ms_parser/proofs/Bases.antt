@@ -13,8 +13,8 @@ use Rattle.ms_syntax.specs.Tree.{Ex, Maybe, Kd, Bs, Indices}
 use Rattle.ms_syntax.specs.Grammar.{Tokens, ◌⋅◌, the, at, WritesIndex, WritesIndices, WritesMode, WritesBase, WritesKind, mark, word}
 use Rattle.ms_expressions.specs.declared.reach.Reach.{Reach}
 use Rattle.ms_expressions.specs.declared.reach.Reach.TheVariants as reach
-use Rattle.ms_expressions.specs.Reading.{Out, bad, deep, Parser, ◌>>=◌, ok, and_then, pick, front, after, pure, by, into, skip, closing}
-use Rattle.ms_expressions.specs.Kinds.{a_name, symbol, keyword}
+use Rattle.ms_cursor.specs.Reading.{Out, bad, deep, Parser, ◌>>=◌, ok, and_then, pick, front, after, pure, by, into, skip, closing}
+use Rattle.ms_cursor.specs.Kinds.{a_name, symbol, keyword}
 use Rattle.ms_expressions.specs.Rules.{a_word, index_set, index_sets}
 use Rattle.ms_parser.proofs.Classes.{name_class, symbol_class, keyword_class}
 use Rattle.ms_parser.proofs.Exact.{Exact, Seq, Just, One, nobody, append_nil, extend}

@@ -13,8 +13,8 @@ use Rattle.ms_syntax.specs.Tree.{Names, Ex, Maybe, Exs, Gens}
 use Rattle.ms_syntax.specs.Grammar.{Tokens, ◌⋅◌, at, bound, Writes, WritesNames, WritesMoreNames, WritesMore, WritesList, WritesSome, WritesWhere, WritesGens, WritesMoreGens, mark, word, opens, left_after}
 use Rattle.ms_expressions.specs.declared.reach.Reach.{Reach}
 use Rattle.ms_expressions.specs.declared.reach.Reach.TheVariants as reach
-use Rattle.ms_expressions.specs.Reading.{Parser, ◌>>=◌, must, enter, sealed, into, closing}
-use Rattle.ms_expressions.specs.Kinds.{symbol, keyword}
+use Rattle.ms_cursor.specs.Reading.{Parser, ◌>>=◌, must, enter, sealed, into, closing}
+use Rattle.ms_cursor.specs.Kinds.{symbol, keyword}
 use Rattle.ms_expressions.specs.Rules.{generators_from, generators_of, if_generators, after_where, generator_body, after_list, arguments}
 use Rattle.ms_parser.proofs.Classes.{symbol_class, keyword_class}
 use Rattle.ms_parser.proofs.Exact.{widen, Exact, Seq, Just, One, Cases, nobody, append_nil}

@@ -4,7 +4,7 @@ use Rattle.std.specs.Prelude.{option_and_then, if◌then◌else◌}
 use Rattle.ms_syntax.specs.declared.token.Token.{Token}
 use Rattle.ms_syntax.specs.declared.token.Spanned.{Spanned}
 use Rattle.ms_syntax.specs.Grammar.{Tokens, opens, closes, left, left_after}
-use Rattle.ms_expressions.specs.Reading.{Out, ok, bad, deep, Parser, pick}
+use Rattle.ms_cursor.specs.Reading.{Out, ok, bad, deep, Parser, pick}
 use Rattle.ms_parser.proofs.Cases.{by, must, enter, sealed}
 use Rattle.ms_parser.proofs.Exact.{cut_same, Stops, nobody, SameHead, IsThere, IsDeep, Found, Stuck, Passes, Exact, Just, One, Cases}
 

@@ -17,7 +17,7 @@ use Rattle.ms_syntax.specs.Token.{same_symbol, same_keyword}
 use Rattle.ms_syntax.specs.contracts.token.Keyword as words
 use Rattle.ms_syntax.specs.contracts.token.Symbol as marks
 use denote.Enum.Bare.{same_true, true_same}
-use Rattle.ms_expressions.specs.Kinds.{a_number, a_text, a_name, a_truth, a_sign, when, symbol, keyword, operator, only, infix_of}
+use Rattle.ms_cursor.specs.Kinds.{a_number, a_text, a_name, a_truth, a_sign, when, symbol, keyword, operator, only, infix_of}
 
 -- f takes the tokens t
 pub record Class {A : Type 0} (f : Token → Option A) (t : A → Token) : Type 0 where

@@ -13,8 +13,8 @@ use Rattle.ms_syntax.specs.Tree.{Ex, Maybe, Exs, Decl, Kd, Bs, Notes, decls_of, 
 use Rattle.ms_syntax.specs.Grammar.{Tokens, ◌⋅◌, at, from, Writes, WritesSome, WritesNotes, WritesArguments, WritesValue, WritesDecl, WritesDecls, WritesMoreDecls, mark}
 use Rattle.ms_expressions.specs.declared.reach.Reach.{Reach}
 use Rattle.ms_expressions.specs.declared.reach.Reach.TheVariants as reach
-use Rattle.ms_expressions.specs.Reading.{Out, bad, deep, Parser, ◌>>=◌, ok, and_then, pick, front, after, pure, by, must, into, skip, closing}
-use Rattle.ms_expressions.specs.Kinds.{symbol, keyword}
+use Rattle.ms_cursor.specs.Reading.{Out, bad, deep, Parser, ◌>>=◌, ok, and_then, pick, front, after, pure, by, must, into, skip, closing}
+use Rattle.ms_cursor.specs.Kinds.{symbol, keyword}
 use Rattle.ms_expressions.specs.Rules.{index_sets, set_base, base, marked, kind, note_arguments, note_rest, notes, value, declared, declaration, more_locals, locals}
 use Rattle.ms_parser.proofs.Classes.{symbol_class, keyword_class}
 use Rattle.ms_parser.proofs.Exact as e

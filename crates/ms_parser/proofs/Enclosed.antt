@@ -11,8 +11,8 @@ use Rattle.ms_syntax.specs.Tree.{Names, Ex, Maybe, Exs, Arms, Rows, Gens, exs_of
 use Rattle.ms_syntax.specs.Grammar.{Tokens, ◌⋅◌, the, at, bound, Writes, WritesNames, WritesMoreNames, WritesMore, WritesList, WritesSome, WritesSecond, WritesWhere, WritesGens, WritesMoreGens, WritesMoreRows, WritesRows, WritesArms, mark, word, left_after}
 use Rattle.ms_expressions.specs.declared.reach.Reach.{Reach}
 use Rattle.ms_expressions.specs.declared.reach.Reach.TheVariants as reach
-use Rattle.ms_expressions.specs.Reading.{Parser, ◌>>=◌, ok, and_then, pick, front, after, pure, by, must, into, closing}
-use Rattle.ms_expressions.specs.Kinds.{a_name, symbol, keyword, infix_of}
+use Rattle.ms_cursor.specs.Reading.{Parser, ◌>>=◌, ok, and_then, pick, front, after, pure, by, must, into, closing}
+use Rattle.ms_cursor.specs.Kinds.{a_name, symbol, keyword, infix_of}
 use Rattle.ms_expressions.specs.Rules.{a_binder, more_names, names, more, list, listed, second, subscript, generator, more_generators, generators, condition, generated, array_rest, more_rows, row_list, rows_rest, set_rest, paren_rest, arm, arms, if_rest}
 use Rattle.ms_parser.proofs.Classes.{Class, name_class, symbol_class, keyword_class}
 use Rattle.ms_parser.proofs.Exact.{widen, Exact, Seq, Just, One, Many, nobody, append_nil, extend}

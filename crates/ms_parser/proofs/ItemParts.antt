@@ -12,8 +12,8 @@ use Rattle.ms_syntax.specs.Tree as x
 use Rattle.ms_syntax.specs.Tree.{Names, Ex, Maybe, Kd, Notes, Params, Gl, It}
 use Rattle.ms_syntax.specs.Grammar.{Tokens, ◌⋅◌, the, at, from, BeginsAt, mark_of, Writes, WritesNames, WritesNotes, WritesDecl, WritesNameList, WritesElements, WritesParam, WritesMoreParams, WritesParamList, WritesParams, WritesGoal, WritesItem, mark}
 use Rattle.ms_expressions.specs.declared.reach.Reach.TheVariants as reach
-use Rattle.ms_expressions.specs.Reading.{Out, ok, bad, deep, and_then, ◌>>=◌, pure, pair, into, placed, many, separated}
-use Rattle.ms_expressions.specs.Kinds.{a_text, symbol, keyword}
+use Rattle.ms_cursor.specs.Reading.{Out, ok, bad, deep, and_then, ◌>>=◌, pure, pair, into, placed, many, separated}
+use Rattle.ms_cursor.specs.Kinds.{a_text, symbol, keyword}
 use Rattle.ms_expressions.specs.Rules.{a_word, kind, under}
 use Rattle.ms_expressions.specs.Rules as r2
 use Rattle.ms_parser.specs.Items.{any, notes, a_string, if_name, name_list, elements, parameter, parameter_list, parameters, goal}

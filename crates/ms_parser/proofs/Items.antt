@@ -5,8 +5,8 @@ use Rattle.ms_syntax.specs.declared.token.Token.TheVariants as tok
 use Rattle.ms_syntax.specs.declared.token.Symbol.TheVariants as s
 use Rattle.ms_syntax.specs.declared.token.Spanned.{Spanned}
 use Rattle.ms_syntax.specs.Grammar.{Tokens, WritesMoreItems, WritesItems, left}
-use Rattle.ms_expressions.specs.Reading.{Out, bad, deep, Parser, ◌>>=◌, ok, and_then, pick, front, pure, sealed, into}
-use Rattle.ms_expressions.specs.Kinds.{symbol}
+use Rattle.ms_cursor.specs.Reading.{Out, bad, deep, Parser, ◌>>=◌, ok, and_then, pick, front, pure, sealed, into}
+use Rattle.ms_cursor.specs.Kinds.{symbol}
 use Rattle.ms_parser.specs.Lists.{or_end, any_token, more_items, items}
 use Rattle.ms_parser.proofs.Classes.{symbol_class}
 use Rattle.ms_parser.proofs.Exact as e

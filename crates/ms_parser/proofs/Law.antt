@@ -5,7 +5,7 @@ use Rattle.ms_syntax.specs.declared.token.Token.{Token}
 use Rattle.ms_syntax.specs.declared.token.Spanned.{Spanned}
 use Rattle.ms_syntax.specs.Grammar.{Tokens, left, opens, closes, IsShallow, Begins, CannotGoOn, SyntaxAt, DeepAt}
 use Rattle.ms_parser.specs.Answers.{HasAnswer}
-use Rattle.ms_expressions.specs.Reading.{Out, ok, bad, deep, Parser, and_then, ◌>>=◌, finish}
+use Rattle.ms_cursor.specs.Reading.{Out, ok, bad, deep, Parser, and_then, ◌>>=◌, finish}
 use Rattle.ms_parser.proofs.Exact.{nobody, Exact, IsThere, IsDeep, append_nil, left_from}
 
 some_there : (o : Option ℕ) → IsThere o → IsSome o

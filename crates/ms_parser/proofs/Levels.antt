@@ -17,10 +17,10 @@ use Rattle.ms_syntax.specs.Tree.{Ex, Maybe, Links, Subscripts, links_of, subscri
 use Rattle.ms_syntax.specs.Grammar.{Tokens, ◌⋅◌, at, from, BeginsAt, operands, single, sign_of, mark_of, truth_of, Writes, WritesLinks, WritesSubscripts, left_after}
 use Rattle.ms_expressions.specs.declared.reach.Reach.{Reach}
 use Rattle.ms_expressions.specs.declared.reach.Reach.TheVariants as reach
-use Rattle.ms_expressions.specs.Reading.{Parser, ◌>>=◌, pure, into, place_at}
-use Rattle.ms_expressions.specs.Kinds.{a_name, a_number, a_text, a_sign, symbol, only, infix_of}
+use Rattle.ms_cursor.specs.Reading.{Parser, ◌>>=◌, pure, into, place_at}
+use Rattle.ms_cursor.specs.Kinds.{a_name, a_number, a_text, a_sign, symbol, only, infix_of}
 use Rattle.ms_expressions.specs.Rules.{chained, accessing, named, closed, bracketed, atom, opened_subscript, subscripts, accessed, signed, one_more, links, behind as behind_rule, tier, arguments, set_rest}
-use Rattle.ms_expressions.specs.Level.{is_single}
+use Rattle.ms_cursor.specs.Level.{is_single}
 use Rattle.ms_parser.proofs.Classes.{name_class, number_class, text_class, truth_class, sign_class, symbol_class, keyword_class, operator_has, infix_is, infix_has}
 use Rattle.ms_parser.proofs.Exact.{widen, Exact, Seq, Just, One, Cases, Many, nobody, append_nil}
 use Rattle.ms_parser.proofs.Choices.{either, either_second, some_or}

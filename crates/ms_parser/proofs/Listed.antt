@@ -6,11 +6,11 @@ use Rattle.ms_syntax.specs.declared.token.Spanned.{Spanned}
 use Rattle.ms_syntax.specs.declared.token.Place.{Place}
 use Rattle.ms_syntax.specs.Tree.{Ex}
 use Rattle.ms_syntax.specs.Grammar.{Tokens}
-use Rattle.ms_expressions.specs.declared.stop.Stop.{Stop}
-use Rattle.ms_expressions.specs.declared.stop.Stop.TheVariants.{Syntax, Deep, Memory}
-use Rattle.ms_expressions.specs.Reads.{Fails}
-use Rattle.ms_expressions.specs.Reading.{Out, ok, bad, deep, Parser, and_then, pure, pick, front, after, into, place_at, finish, sealed, ◌>>=◌}
-use Rattle.ms_expressions.specs.Kinds.{symbol}
+use Rattle.ms_cursor.specs.declared.stop.Stop.{Stop}
+use Rattle.ms_cursor.specs.declared.stop.Stop.TheVariants.{Syntax, Deep, Memory}
+use Rattle.ms_cursor.specs.Reads.{Fails}
+use Rattle.ms_cursor.specs.Reading.{Out, ok, bad, deep, Parser, and_then, pure, pick, front, after, into, place_at, finish, sealed, ◌>>=◌}
+use Rattle.ms_cursor.specs.Kinds.{symbol}
 use Rattle.ms_expressions.specs.Rules.{Turn, item, last}
 use Rattle.ms_parser.specs.Lists.{or_end, any_token, more_items, items, item_turn}
 use Rattle.ms_parser.specs.Items.{range, of_range, behind_range}

@@ -5,7 +5,7 @@ use Rattle.ms_syntax.specs.declared.token.Token.{Token}
 use Rattle.ms_syntax.specs.declared.token.Spanned.{Spanned}
 use Rattle.ms_syntax.specs.declared.token.Place.{Place}
 use Rattle.ms_syntax.specs.Grammar.{Tokens, ◌⋅◌, the, at, from, BeginsAt, opens, closes, left, left_after}
-use Rattle.ms_expressions.specs.Reading.{Out, ok, bad, deep, Parser, and_then, ◌>>=◌, pure, pick, tagged, front, after, must, deeper, many, into, enter, placed, place_at}
+use Rattle.ms_cursor.specs.Reading.{Out, ok, bad, deep, Parser, and_then, ◌>>=◌, pure, pick, tagged, front, after, must, deeper, many, into, enter, placed, place_at}
 use Rattle.ms_parser.proofs.Classes.{Class}
 use Rattle.ms_parser.proofs.Cases as c
 use Rattle.ms_parser.proofs.Exact as e

@@ -12,10 +12,10 @@ use Rattle.ms_syntax.specs.Tree as x
 use Rattle.ms_syntax.specs.Tree.{Ex, Kd, Bs, Indices, It, Items}
 use Rattle.ms_syntax.specs.Grammar.{Tokens, ◌⋅◌, the, Writes, WritesNotes, WritesDecl, WritesElements, WritesParams, WritesGoal, WritesItem, WritesTree, WritesBase, WritesIndices, WritesMode, WritesKind, IsShallow, mark, left, left_after}
 use Rattle.ms_parser.specs.Answers.{HasAnswer, IsWithin, from_front}
-use Rattle.ms_expressions.specs.Reading.{Out, bad, deep, Parser, ok, pick, tagged, into, skip}
-use Rattle.ms_expressions.specs.Kinds.{symbol, keyword}
+use Rattle.ms_cursor.specs.Reading.{Out, bad, deep, Parser, ok, pick, tagged, into, skip}
+use Rattle.ms_cursor.specs.Kinds.{symbol, keyword}
 use Rattle.ms_expressions.specs.Rules.{declared, declaration, under}
-use Rattle.ms_expressions.specs.Kinds.{kind_word}
+use Rattle.ms_cursor.specs.Kinds.{kind_word}
 use Rattle.ms_parser.specs.Lists.{items}
 use Rattle.ms_parser.specs.Items.{any, peek, if_name, of_range, an_item, model}
 use Rattle.ms_parser.proofs.Classes.{symbol_class, keyword_class}
@@ -31,8 +31,8 @@ use Rattle.ms_parser.proofs.Items.{all, items_exact}
 use Rattle.std.specs.Prelude.{Result}
 use Rattle.ms_syntax.specs.declared.tree.Tree.{Tree}
 use Rattle.ms_syntax.specs.Tree.{tree_view}
-use Rattle.ms_expressions.specs.declared.stop.Stop.{Stop}
-use Rattle.ms_expressions.specs.Reads.{Reads}
+use Rattle.ms_cursor.specs.declared.stop.Stop.{Stop}
+use Rattle.ms_cursor.specs.Reads.{Reads}
 use Rattle.ms_parser.proofs.Law as law
 use Rattle.ms_parser.proofs.Answered as t
 use Rattle.ms_parser.proofs.ItemParts.{string_exact, any_at, range_at, any_in, range_in, value_exact, elements_exact, parameters_exact, constraint_exact, solve_exact, name_class_is, range_declared, RawOfRange, begins_no, range_some, of_range_to, assignment_from, range_from}

@@ -13,8 +13,8 @@ use Rattle.ms_syntax.specs.Tree.{Ex, Links, Decl, Decls, decls_of}
 use Rattle.ms_syntax.specs.Grammar.{Tokens, ◌⋅◌, operands, Writes, WritesDecls, word}
 use Rattle.ms_expressions.specs.declared.reach.Reach.{Reach}
 use Rattle.ms_expressions.specs.declared.reach.Reach.TheVariants as reach
-use Rattle.ms_expressions.specs.Reading.{Parser}
-use Rattle.ms_expressions.specs.Kinds.{symbol, keyword}
+use Rattle.ms_cursor.specs.Reading.{Parser}
+use Rattle.ms_cursor.specs.Kinds.{symbol, keyword}
 use Rattle.ms_expressions.specs.Rules.{locals, local, reads, nested, under, tier, signed}
 use Rattle.ms_expressions.proofs.Depth.{under_reads, nested_one}
 use Rattle.ms_parser.proofs.Classes.{symbol_class, keyword_class}

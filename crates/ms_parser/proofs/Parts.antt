@@ -4,7 +4,7 @@ use Rattle.ms_syntax.specs.declared.token.Token.{Token}
 use Rattle.ms_syntax.specs.declared.token.Spanned.{Spanned}
 use Rattle.ms_syntax.specs.declared.token.Place.{Place}
 use Rattle.ms_syntax.specs.Grammar.{Tokens, ◌⋅◌, the, at, opens, left_after}
-use Rattle.ms_expressions.specs.Reading.{Parser, ◌>>=◌, pure, by, must, opening, pair, into, skip, closing}
+use Rattle.ms_cursor.specs.Reading.{Parser, ◌>>=◌, pure, by, must, opening, pair, into, skip, closing}
 use Rattle.ms_parser.proofs.Classes.{Class}
 use Rattle.ms_parser.proofs.Exact as e
 use Rattle.ms_parser.proofs.Exact.{Exact, Seq, Just, One, Cases, nobody, append_nil}

@@ -4,7 +4,7 @@ use Rattle.std.specs.Prelude.{option_and_then, if◌then◌else◌}
 use Rattle.ms_syntax.specs.declared.token.Token.{Token}
 use Rattle.ms_syntax.specs.declared.token.Spanned.{Spanned}
 use Rattle.ms_syntax.specs.Grammar.{Tokens, opens, closes, left, left_after}
-use Rattle.ms_expressions.specs.Reading.{Out, ok, bad, deep, Parser, and_then, ◌>>=◌, pure, pick, deeper}
+use Rattle.ms_cursor.specs.Reading.{Out, ok, bad, deep, Parser, and_then, ◌>>=◌, pure, pick, deeper}
 use Rattle.ms_parser.proofs.Cases.{opening, many_to, many}
 use Rattle.ms_parser.proofs.Exact.{append_nil, Stops, nobody, SameHead, IsDeep, Found, Stuck, Passes, Exact, Seq, Just, Cases, Many, bind, pure_exact, retype, extend}
 use Rattle.ms_parser.proofs.Choices.{some_or, either, by_exact}

@@ -2,11 +2,11 @@
 use Rattle.std.proofs.Common.{◌≡◌, suc, [], ◌∷◌, length, refl, sym, ap, ◌∙◌}
 use Rattle.ms_syntax.specs.Tree.{Ex}
 use Rattle.ms_syntax.specs.Grammar.{Tokens}
-use Rattle.ms_expressions.specs.declared.stop.Stop.{Stop}
-use Rattle.ms_expressions.specs.declared.stop.Stop.TheVariants.{Syntax, Deep, Memory}
+use Rattle.ms_cursor.specs.declared.stop.Stop.{Stop}
+use Rattle.ms_cursor.specs.declared.stop.Stop.TheVariants.{Syntax, Deep, Memory}
 use Rattle.ms_expressions.specs.declared.reach.Reach.TheVariants as reach
-use Rattle.ms_expressions.specs.Reading.{Out, ok, bad, deep, and_then, finish}
-use Rattle.ms_expressions.specs.Reads.{Fails}
+use Rattle.ms_cursor.specs.Reading.{Out, ok, bad, deep, and_then, finish}
+use Rattle.ms_cursor.specs.Reads.{Fails}
 use Rattle.ms_expressions.specs.Rules.{under}
 use Rattle.ms_parser.specs.Items.{statement}
 

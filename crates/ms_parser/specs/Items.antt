@@ -1,6 +1,7 @@
 -- The rules of items, of data and of all of the tokens, each as what it reads. No bracket is open
--- here: 200 may open.
-use Rattle.std.specs.Prelude.{ℕ, List, [], Option, Some, None, option_and_then, Bool}
+-- here: as many may open as may at all.
+use Rattle.std.specs.Prelude.{ℕ, suc, pred, List, [], Option, Some, None, option_and_then, Bool}
+use Rattle.ms_base.specs.declared.limits.TheConstants.{NESTING_LIMIT}
 use Rattle.ms_syntax.specs.declared.token.Token.{Token}
 use Rattle.ms_syntax.specs.declared.token.Keyword.TheVariants as k
 use Rattle.ms_syntax.specs.declared.token.Symbol.TheVariants as s
@@ -9,9 +10,9 @@ use Rattle.ms_syntax.specs.declared.tree.Mode.TheVariants as m
 use Rattle.ms_syntax.specs.Tree as x
 use Rattle.ms_syntax.specs.Tree.{Names, Ex, Maybe, Decl, Kd, Notes, Params, Gl, It}
 use Rattle.ms_expressions.specs.declared.reach.Reach.TheVariants as reach
-use Rattle.ms_expressions.specs.Reading.{Parser, pick, front, ◌>>=◌, pure, by, must, separated}
-use Rattle.ms_expressions.specs.Reading.{placed, pair, into, skip, closing, enter, finish}
-use Rattle.ms_expressions.specs.Kinds.{a_text, symbol, keyword, kind_word}
+use Rattle.ms_cursor.specs.Reading.{Parser, pick, front, ◌>>=◌, pure, by, must, separated}
+use Rattle.ms_cursor.specs.Reading.{placed, pair, into, skip, closing, enter, finish}
+use Rattle.ms_cursor.specs.Kinds.{a_text, symbol, keyword, kind_word}
 use Rattle.ms_expressions.specs.Rules.{under, a_word, a_binder, names}
 use Rattle.ms_expressions.specs.Rules as r
 use Rattle.ms_parser.specs.Lists.{items}
@@ -19,23 +20,23 @@ use Rattle.ms_parser.specs.Lists.{items}
 -- ---- of which items are made
 
 abbrev pub any : Parser Ex
-any = under 201 reach.Any
+any = under (suc NESTING_LIMIT) reach.Any
 
 abbrev pub range : Parser Ex
-range = under 201 reach.Range
+range = under (suc NESTING_LIMIT) reach.Range
 
 abbrev pub kind : Parser Kd
-kind = r.kind 200 (under 201) (under 200)
+kind = r.kind NESTING_LIMIT (under (suc NESTING_LIMIT)) (under NESTING_LIMIT)
 
 abbrev pub notes : Parser Notes
-notes = r.notes 200 (under 201) (under 200)
+notes = r.notes NESTING_LIMIT (under (suc NESTING_LIMIT)) (under NESTING_LIMIT)
 
 -- behind a kind and its colon
 abbrev pub declared : Parser (List ℕ × (Notes × Maybe))
-declared = r.declared 200 (under 201) (under 200)
+declared = r.declared NESTING_LIMIT (under (suc NESTING_LIMIT)) (under NESTING_LIMIT)
 
 abbrev pub declaration : Parser Decl
-declaration = r.declaration 200 (under 201) (under 200)
+declaration = r.declaration NESTING_LIMIT (under (suc NESTING_LIMIT)) (under NESTING_LIMIT)
 
 -- the same behind a kind that has been read
 abbrev pub declared_as : Place → Kd → Parser Decl
@@ -43,7 +44,7 @@ declared_as p kd = into (λ c. x.declare p kd c.0 c.1.0 c.1.1) declared
 
 -- inside a bracket
 abbrev pub parameter : Parser (Place × Kd × List ℕ)
-parameter = r.parameter 199 (under 200) (under 199)
+parameter = r.parameter (pred NESTING_LIMIT) (under NESTING_LIMIT) (under (pred NESTING_LIMIT))
 
 abbrev pub a_string : Parser (List ℕ)
 a_string = into (λ c. c.0) (must a_text)
@@ -55,7 +56,7 @@ name_list = by (symbol s.CloseBrace) (λ a y. pure []) (closing (symbol s.CloseB
 
 unfoldable pub elements : Parser (Option Names)
 elements =
-    by (symbol s.Equal) (λ a y. into Some (enter 200 (symbol s.OpenBrace) >>= λ c. name_list))
+    by (symbol s.Equal) (λ a y. into Some (enter NESTING_LIMIT (symbol s.OpenBrace) >>= λ c. name_list))
     (pure None)
 
 unfoldable pub parameter_list : Parser Params
@@ -64,7 +65,7 @@ parameter_list =
     (closing (symbol s.CloseParenthesis) (separated (symbol s.Comma) parameter))
 
 unfoldable pub parameters : Parser Params
-parameters = enter 200 (symbol s.OpenParenthesis) >>= λ c. parameter_list
+parameters = enter NESTING_LIMIT (symbol s.OpenParenthesis) >>= λ c. parameter_list
 
 unfoldable pub goal : Parser Gl
 goal =

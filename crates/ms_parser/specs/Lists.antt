@@ -2,8 +2,8 @@
 use Rattle.std.specs.Prelude.{ℕ, zero, suc, List, [], ◌∷◌, length, Option, Some, Bool, true, false}
 use Rattle.ms_syntax.specs.declared.token.Token.{Token}
 use Rattle.ms_syntax.specs.declared.token.Symbol.TheVariants as s
-use Rattle.ms_expressions.specs.Reading.{Parser, ok, ◌>>=◌, by, into, sealed}
-use Rattle.ms_expressions.specs.Kinds.{symbol}
+use Rattle.ms_cursor.specs.Reading.{Parser, ok, ◌>>=◌, by, into, sealed}
+use Rattle.ms_cursor.specs.Kinds.{symbol}
 use Rattle.ms_expressions.specs.Rules.{Turn, item, last}
 
 -- b at the end of the tokens, else p

@@ -4,7 +4,7 @@ ghost use Rattle.std.specs.Prelude.{◌≡◌, length};
 ghost use Rattle.ms_parser.specs.Answers.{IsWithin, from_front};
 
 use crate::fault::ParseFault;
-use ms_expressions::Stop;
+use ms_cursor::Stop;
 use ms_syntax::Spanned;
 
 /// What was read of all tokens, with a fault that is told by how many tokens are left told by its

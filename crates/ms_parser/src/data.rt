@@ -3,7 +3,7 @@
 ghost use Rattle.std.specs.Prelude.{◌≡◌, ℕ, [], IfOk, Err};
 ghost use Rattle.ms_syntax.specs.Tree.{Pairs, assignment_view, assignments_view};
 ghost use Rattle.ms_syntax.specs.Grammar.{WritesPairs, IsShallow, SyntaxAt, DeepAt};
-ghost use Rattle.ms_expressions.specs.Reads.{Reads};
+ghost use Rattle.ms_cursor.specs.Reads.{Reads};
 ghost use Rattle.ms_parser.specs.Answers.{GivesUnlessMemory, FailsUnlessMemory};
 ghost use Rattle.ms_parser.specs.Items as rules;
 
@@ -11,7 +11,8 @@ use crate::answer::answer;
 use crate::fault::ParseFault;
 use crate::list::{Entry, list};
 use crate::outermost::any;
-use ms_expressions::{Cursor, Stop, binder};
+use ms_cursor::{Cursor, Stop};
+use ms_expressions::binder;
 use ms_syntax::{Assignment, Assignments, Binder, Spanned, Symbol};
 use std::alloc::Global;
 
@@ -47,7 +48,7 @@ fn whole_data(alloc: Global, tokens: &[Spanned]) -> Result<Assignments, Stop>
 }
 
 /// The one list of assignments that the grammar writes as the tokens of data, with brackets and
-/// `if` nested at most `MAX_NESTING` deep. `Syntax(k)`: the token at `k` is the first with which no
+/// `if` nested at most `NESTING_LIMIT` deep. `Syntax(k)`: the token at `k` is the first with which no
 /// data goes on, or `k` is the number of tokens and they are no whole data. `Deep(k)`: the token at
 /// `k` is the first that nests too deep.
 pub fn assignments(alloc: Global, tokens: &[Spanned]) -> Result<Assignments, ParseFault>

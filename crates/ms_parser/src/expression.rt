@@ -3,30 +3,29 @@
 ghost use Rattle.std.specs.Prelude.{◌≡◌, ℕ, [], IfOk, Err};
 ghost use Rattle.ms_syntax.specs.Tree.{Ex, ex_view};
 ghost use Rattle.ms_syntax.specs.Grammar.{Writes, IsShallow, SyntaxAt, DeepAt};
-ghost use Rattle.ms_expressions.specs.Reads.{Reads};
+ghost use Rattle.ms_cursor.specs.Reads.{Reads};
 ghost use Rattle.ms_parser.specs.Items as rules;
 ghost use Rattle.ms_parser.specs.Answers.{GivesUnlessMemory, FailsUnlessMemory};
 
 use crate::answer::answer;
 use crate::fault::ParseFault;
-use ms_expressions::{Cursor, Reach, Stop, expr};
+use ms_base::NESTING_LIMIT;
+use ms_cursor::{Cursor, Stop};
+use ms_expressions::{Reach, expr};
 use ms_syntax::{Expr, Spanned};
 use std::alloc::Global;
-
-/// How deep brackets and `if` may nest.
-pub const MAX_NESTING: usize = 200;
 
 fn whole_statement(alloc: Global, tokens: &[Spanned]) -> Result<Expr, Stop>
     ensures { Reads ex_view (rules.statement tokens.now) result [] }
 {
     let mut cursor = Cursor::new(tokens);
-    let read = expr(alloc, &mut cursor, MAX_NESTING + 1, Reach::Any)?;
+    let read = expr(alloc, &mut cursor, NESTING_LIMIT + 1, Reach::Any)?;
     cursor.finish()?;
     Ok(read)
 }
 
 /// The one expression that the grammar writes as the tokens, with brackets and `if` nested at most
-/// `MAX_NESTING` deep. `Syntax(k)`: the token at `k` is the first with which no expression goes on,
+/// `NESTING_LIMIT` deep. `Syntax(k)`: the token at `k` is the first with which no expression goes on,
 /// or `k` is the number of tokens and they are no whole one. `Deep(k)`: the token at `k` is the
 /// first that nests too deep.
 pub fn statement(alloc: Global, tokens: &[Spanned]) -> Result<Expr, ParseFault>

@@ -4,12 +4,13 @@
 
 ghost use Rattle.std.specs.Prelude.{◌≡◌, option_map};
 ghost use Rattle.ms_syntax.specs.Tree.{ex_view, names_view, goal_view, item_view};
-ghost use Rattle.ms_expressions.specs.Reads.{Reads};
+ghost use Rattle.ms_cursor.specs.Reads.{Reads};
 ghost use Rattle.ms_parser.specs.Items as rules;
 
 use crate::outermost::{any, declaration, declared, kind, names, notes, range};
 use crate::parameters::parameters;
-use ms_expressions::{Cursor, Stop, word};
+use ms_cursor::{Cursor, Stop};
+use ms_expressions::word;
 use ms_syntax::{Base, Binder, Expr, Goal, Item, Keyword, Kind, Mode, Place, Symbol};
 use std::alloc::Global;
 

@@ -2,10 +2,10 @@
 //!
 //! [`statement`], [`assignments`] and [`model`] read a list of tokens as an expression, as data
 //! and as a model. Each answers the one tree that the grammar writes as the tokens, with brackets
-//! and `if` nested at most [`MAX_NESTING`] deep; and else the first token with which no list of
-//! the grammar goes on, or the first that opens too deep ([`ParseFault`]). Each cause is told in
-//! both directions: the answer says that it holds, and where it holds the answer is it. Want of
-//! memory alone is free. The laws have what follows of trees and tokens alone: tokens that nest so
+//! and `if` nested at most `NESTING_LIMIT` deep; and else the first token with which no list of the
+//! grammar goes on, or the first that opens too deep ([`ParseFault`]). Each cause is told in both
+//! directions: the answer says that it holds, and where it holds the answer is it. Want of memory
+//! alone is free. The laws have what follows of trees and tokens alone: tokens that nest so
 //! deep at most are written by one expression, one model and one list of assignments at most
 //! ([`one_expression`], [`one_model`], [`one_data`]), each list of tokens has an answer
 //! ([`some_answer`]), and how the operators of a chain group ([`chains_group`]).
@@ -36,7 +36,7 @@ mod outermost;
 mod parameters;
 
 pub use data::assignments;
-pub use expression::{MAX_NESTING, statement};
+pub use expression::statement;
 pub use fault::ParseFault;
 pub use laws::{chains_group, one_data, one_expression, one_model, some_answer};
 pub use models::model;

@@ -1,16 +1,18 @@
 //! Lists with semicolons between, up to the end of the tokens.
 
 ghost use Rattle.std.specs.Prelude.{◌≡◌, map};
-ghost use Rattle.ms_expressions.specs.Reads.{Reads, turn_view};
+ghost use Rattle.ms_cursor.specs.Reads.{Reads};
+ghost use Rattle.ms_expressions.specs.Nests.{turn_view};
 ghost use Rattle.ms_parser.specs.Lists as rules;
 
-use ms_expressions::{Cursor, Stop, Turn};
+use ms_cursor::{Cursor, Stop};
+use ms_expressions::Turn;
 use ms_syntax::Symbol;
 use std::alloc::Global;
 
 /// What such a list is made of.
 pub trait Entry: Drop {
-    ghost use Rattle.ms_expressions.specs.Reading.{Parser};
+    ghost use Rattle.ms_cursor.specs.Reading.{Parser};
 
     /// What stands for one of them.
     ghost Seen: { Type 0 };

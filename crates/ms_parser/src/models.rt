@@ -3,7 +3,7 @@
 ghost use Rattle.std.specs.Prelude.{◌≡◌, ℕ, [], IfOk, Err};
 ghost use Rattle.ms_syntax.specs.Tree.{Items, tree_view};
 ghost use Rattle.ms_syntax.specs.Grammar.{WritesTree, IsShallow, SyntaxAt, DeepAt};
-ghost use Rattle.ms_expressions.specs.Reads.{Reads};
+ghost use Rattle.ms_cursor.specs.Reads.{Reads};
 ghost use Rattle.ms_parser.specs.Answers.{GivesUnlessMemory, FailsUnlessMemory};
 ghost use Rattle.ms_parser.specs.Items as rules;
 
@@ -11,7 +11,7 @@ use crate::answer::answer;
 use crate::fault::ParseFault;
 use crate::item::item;
 use crate::list::{Entry, list};
-use ms_expressions::{Cursor, Stop};
+use ms_cursor::{Cursor, Stop};
 use ms_syntax::{Item, Spanned, Tree};
 use std::alloc::Global;
 
@@ -41,7 +41,7 @@ fn whole_model(alloc: Global, tokens: &[Spanned]) -> Result<Tree, Stop>
 }
 
 /// The one tree that the grammar writes as the tokens of a model, with brackets and `if` nested at
-/// most `MAX_NESTING` deep. `Syntax(k)`: the token at `k` is the first with which no model goes on,
+/// most `NESTING_LIMIT` deep. `Syntax(k)`: the token at `k` is the first with which no model goes on,
 /// or `k` is the number of tokens and they are no whole one. `Deep(k)`: the token at `k` is the
 /// first that nests too deep.
 pub fn model(alloc: Global, tokens: &[Spanned]) -> Result<Tree, ParseFault>

@@ -3,13 +3,14 @@
 ghost use Rattle.std.specs.Prelude.{◌≡◌};
 ghost use Rattle.ms_syntax.specs.Tree.{ex_view, kind_view, names_view, notes_view};
 ghost use Rattle.ms_syntax.specs.Tree.{declaration_view};
-ghost use Rattle.ms_expressions.specs.Reads.{Reads};
+ghost use Rattle.ms_cursor.specs.Reads.{Reads};
 ghost use Rattle.ms_expressions.specs.Rules.{under};
 ghost use Rattle.ms_expressions.specs.Rules as spec;
 ghost use Rattle.ms_parser.specs.Items as rules;
 
-use crate::expression::MAX_NESTING;
-use ms_expressions::{Cursor, Grammar, Reach, Stop, expr};
+use ms_base::NESTING_LIMIT;
+use ms_cursor::{Cursor, Stop};
+use ms_expressions::{Grammar, Reach, expr};
 use ms_syntax::{Binder, Declaration, Expr, Kind, Note, Place};
 use std::alloc::Global;
 
@@ -17,14 +18,14 @@ use std::alloc::Global;
 pub fn any(alloc: Global, tokens: &mut Cursor<'_>) -> Result<Expr, Stop>
     ensures { Reads ex_view (rules.any tokens.old) result tokens.new }
 {
-    expr(alloc, tokens, MAX_NESTING + 1, Reach::Any)
+    expr(alloc, tokens, NESTING_LIMIT + 1, Reach::Any)
 }
 
 /// An expression of the level of `..`.
 pub fn range(alloc: Global, tokens: &mut Cursor<'_>) -> Result<Expr, Stop>
     ensures { Reads ex_view (rules.range tokens.old) result tokens.new }
 {
-    expr(alloc, tokens, MAX_NESTING + 1, Reach::Range)
+    expr(alloc, tokens, NESTING_LIMIT + 1, Reach::Range)
 }
 
 /// `expr` as a function value, which a function of another crate cannot be.
@@ -43,7 +44,7 @@ pub fn nested(
 pub fn kind(alloc: Global, tokens: &mut Cursor<'_>) -> Result<Kind, Stop>
     ensures { Reads kind_view (rules.kind tokens.old) result tokens.new }
 {
-    let depth = MAX_NESTING;
+    let depth = NESTING_LIMIT;
     Grammar {
         alloc,
         depth,
@@ -56,7 +57,7 @@ pub fn kind(alloc: Global, tokens: &mut Cursor<'_>) -> Result<Kind, Stop>
 pub fn names(alloc: Global, tokens: &mut Cursor<'_>) -> Result<Vec<Binder>, Stop>
     ensures { Reads (λ v. names_view v.items) (spec.names tokens.old) result tokens.new }
 {
-    let depth = MAX_NESTING;
+    let depth = NESTING_LIMIT;
     Grammar {
         alloc,
         depth,
@@ -70,7 +71,7 @@ pub fn names(alloc: Global, tokens: &mut Cursor<'_>) -> Result<Vec<Binder>, Stop
 pub fn notes(alloc: Global, tokens: &mut Cursor<'_>) -> Result<Vec<Note>, Stop>
     ensures { Reads (λ v. notes_view v.items) (rules.notes tokens.old) result tokens.new }
 {
-    let depth = MAX_NESTING;
+    let depth = NESTING_LIMIT;
     Ok(Grammar {
         alloc,
         depth,
@@ -89,7 +90,7 @@ pub fn declared(
     ensures { Reads declaration_view (rules.declared_as place (kind_view kind) tokens.old) result
         tokens.new }
 {
-    let depth = MAX_NESTING;
+    let depth = NESTING_LIMIT;
     Grammar {
         alloc,
         depth,
@@ -102,7 +103,7 @@ pub fn declared(
 pub fn declaration(alloc: Global, tokens: &mut Cursor<'_>) -> Result<Declaration, Stop>
     ensures { Reads declaration_view (rules.declaration tokens.old) result tokens.new }
 {
-    let depth = MAX_NESTING;
+    let depth = NESTING_LIMIT;
     Grammar {
         alloc,
         depth,

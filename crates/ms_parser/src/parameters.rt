@@ -2,12 +2,13 @@
 
 ghost use Rattle.std.specs.Prelude.{◌≡◌};
 ghost use Rattle.ms_syntax.specs.Tree.{params_view};
-ghost use Rattle.ms_expressions.specs.Reads.{Reads};
+ghost use Rattle.ms_cursor.specs.Reads.{Reads};
 ghost use Rattle.ms_parser.specs.Items as rules;
 
-use crate::expression::MAX_NESTING;
 use crate::outermost::nested;
-use ms_expressions::{Cursor, Grammar, Stop};
+use ms_base::NESTING_LIMIT;
+use ms_cursor::{Cursor, Stop};
+use ms_expressions::Grammar;
 use ms_syntax::{Parameter, Symbol};
 use std::alloc::Global;
 
@@ -19,7 +20,7 @@ fn parameter_list(alloc: Global, tokens: &mut Cursor<'_>) -> Result<Vec<Paramete
     if tokens.takes(Symbol::CloseParenthesis) {
         return Ok(Vec::new(alloc));
     }
-    let depth = MAX_NESTING - 1;
+    let depth = NESTING_LIMIT - 1;
     let grammar = Grammar {
         alloc,
         depth,

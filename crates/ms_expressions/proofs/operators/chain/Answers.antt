@@ -1,6 +1,6 @@
 use Rattle.std.proofs.Common.{ap, sym, ◌∙◌}
 use Rattle.ms_syntax.specs.Tree.{ex_view, links_view, chain}
-use Rattle.ms_expressions.specs.Level.{operands_of}
+use Rattle.ms_cursor.specs.Level.{operands_of}
 use Rattle.ms_expressions.proofs.Kept.{chained_some}
 use Rattle.ms_expressions.proofs.Views.{view_concat, view_product, view_sum, view_and, view_or, view_implies, view_same}
 use Rattle.ms_expressions.proofs.operators.chain.Goals as goal

@@ -1,7 +1,7 @@
 use Rattle.std.proofs.Common.{◌-◌, sym, ap, ◌∙◌, subst, arith}
 use Rattle.ms_syntax.specs.Tree.{ex_view}
-use Rattle.ms_expressions.specs.Reading.{bad}
-use Rattle.ms_expressions.specs.Reads.{Reads}
+use Rattle.ms_cursor.specs.Reading.{bad}
+use Rattle.ms_cursor.specs.Reads.{Reads}
 use Rattle.ms_expressions.proofs.Depth.{under_none, under_step}
 use Rattle.ms_expressions.proofs.recursion.+expr.Goals as goal
 

@@ -1,8 +1,8 @@
 use Rattle.std.proofs.Common.{◌≡◌, ◌-◌, map, [], ◌∷◌, ◌++◌, length, false, ap, sym, ◌∙◌, arith, rules}
 use Rattle.std.proofs.lemmas.List.{map-append}
 use Rattle.std.proofs.lemmas.Result.{err_from_is_err_and}
-use Rattle.ms_expressions.specs.Reading.{ok}
-use Rattle.ms_expressions.specs.Reads.{turn_view}
+use Rattle.ms_cursor.specs.Reading.{ok}
+use Rattle.ms_expressions.specs.Nests.{turn_view}
 use Rattle.ms_expressions.specs.Rules.{last}
 use Rattle.ms_parser.specs.Lists.{more_items, item_turn}
 use Rattle.ms_expressions.specs.Rules as r

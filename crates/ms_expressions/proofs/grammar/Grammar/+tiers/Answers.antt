@@ -2,10 +2,10 @@ use Rattle.std.proofs.Common.{◌≡◌, ◌+◌, suc, map, ap, ◌∙◌, subst
 use Rattle.std.proofs.lemmas.Result.{err_from_is_err_and}
 use Rattle.ms_syntax.specs.Tree.{ex_view, link_view}
 use Rattle.ms_expressions.specs.Rules.{under, signed, tier, behind}
-use Rattle.ms_expressions.specs.Reading.{ok}
-use Rattle.ms_expressions.specs.Reads.{Fails}
-use Rattle.ms_expressions.specs.Kinds.{infix_of}
-use Rattle.ms_expressions.specs.Level.{tighter, operands_of}
+use Rattle.ms_cursor.specs.Reading.{ok}
+use Rattle.ms_cursor.specs.Reads.{Fails}
+use Rattle.ms_cursor.specs.Kinds.{infix_of}
+use Rattle.ms_cursor.specs.Level.{tighter, operands_of}
 use Rattle.ms_expressions.proofs.Depth.{tier_next, tier_none, tier_fails, operand_fails}
 use Rattle.ms_expressions.proofs.Linked.{linked, none_behind, link_step, link_stop, link_fails}
 use Rattle.ms_expressions.proofs.Loops.{each_over}

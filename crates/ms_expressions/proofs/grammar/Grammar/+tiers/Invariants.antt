@@ -1,8 +1,8 @@
 use Rattle.std.proofs.Common.{◌≡◌, ◌+◌, ◌*◌, ◌-◌, map, length}
 use Rattle.ms_syntax.specs.Tree.{ex_view, link_view}
-use Rattle.ms_expressions.specs.Reading.{ok, many_to, grown}
-use Rattle.ms_expressions.specs.Kinds.{infix_of}
-use Rattle.ms_expressions.specs.Level.{tighter, operands_of}
+use Rattle.ms_cursor.specs.Reading.{ok, many_to, grown}
+use Rattle.ms_cursor.specs.Kinds.{infix_of}
+use Rattle.ms_cursor.specs.Level.{tighter, operands_of}
 use Rattle.ms_expressions.specs.Rules.{under, signed, tier}
 use Rattle.ms_expressions.proofs.Linked.{linked}
 use Rattle.ms_expressions.proofs.grammar.Grammar.+tiers.Given as goal

@@ -1,6 +1,6 @@
 use Rattle.std.proofs.Common.{map, ap, sym, ◌∙◌}
 use Rattle.ms_syntax.specs.Tree.{ex_view, subscript_view, subscripts_view}
-use Rattle.ms_expressions.specs.Reading.{ok}
+use Rattle.ms_cursor.specs.Reading.{ok}
 use Rattle.ms_expressions.specs.Rules.{under, accessing}
 use Rattle.ms_expressions.proofs.Kept.{accessing_some}
 use Rattle.ms_expressions.proofs.Views.{as_access}

@@ -3,9 +3,9 @@ use Rattle.std.proofs.lemmas.Result.{err_from_is_err_and}
 use Rattle.ms_syntax.specs.declared.token.Symbol.TheVariants as s
 use Rattle.ms_syntax.specs.Tree.{Ex, ex_view}
 use Rattle.ms_expressions.specs.declared.reach.Reach.TheVariants as reach
-use Rattle.ms_expressions.specs.Kinds.{symbol}
-use Rattle.ms_expressions.specs.Reading.{Out, ok, many, grown}
-use Rattle.ms_expressions.specs.Reads.{Fails}
+use Rattle.ms_cursor.specs.Kinds.{symbol}
+use Rattle.ms_cursor.specs.Reading.{Out, ok, many, grown}
+use Rattle.ms_cursor.specs.Reads.{Fails}
 use Rattle.ms_expressions.specs.Rules.{under}
 use Rattle.ms_expressions.proofs.Views.{as_empty, as_array}
 use Rattle.ms_expressions.proofs.Where.{array_empty, array_goes_on, until_fails, until_open, until_closed}

@@ -1,6 +1,6 @@
 use Rattle.std.proofs.Common.{suc, subst}
 use Rattle.ms_syntax.specs.Tree.{kind_view, declaration_view}
-use Rattle.ms_expressions.specs.Reads.{Reads}
+use Rattle.ms_cursor.specs.Reads.{Reads}
 use Rattle.ms_expressions.specs.Rules.{under}
 use Rattle.ms_expressions.proofs.Declared.{as_declared}
 use Rattle.ms_expressions.proofs.grammar.Grammar.declaration.Goals as goal

@@ -3,9 +3,9 @@ use Rattle.ms_syntax.specs.declared.token.Symbol.TheVariants as s
 use Rattle.ms_syntax.specs.declared.tree.Expr.{Expr}
 use Rattle.ms_syntax.specs.Tree.{ex_view, exs_of}
 use Rattle.ms_expressions.specs.declared.reach.Reach.TheVariants as reach
-use Rattle.ms_expressions.specs.Kinds.{symbol}
-use Rattle.ms_expressions.specs.Reading.{separated}
-use Rattle.ms_expressions.specs.Reads.{Reads}
+use Rattle.ms_cursor.specs.Kinds.{symbol}
+use Rattle.ms_cursor.specs.Reading.{separated}
+use Rattle.ms_cursor.specs.Reads.{Reads}
 use Rattle.ms_expressions.specs.Rules.{under}
 use Rattle.ms_expressions.proofs.Separated.{list_is, reads_as}
 use Rattle.ms_expressions.proofs.grammar.Grammar.list.Goals as goal

@@ -1,6 +1,6 @@
 use Rattle.std.proofs.Common.{map, ap, ◌∙◌}
 use Rattle.ms_syntax.specs.Tree.{ex_view, declaration_view}
-use Rattle.ms_expressions.specs.Reading.{ok}
+use Rattle.ms_cursor.specs.Reading.{ok}
 use Rattle.ms_expressions.specs.Rules.{under, inmost}
 use Rattle.ms_expressions.proofs.Views.{as_let}
 use Rattle.ms_expressions.proofs.Entered.{let_read}

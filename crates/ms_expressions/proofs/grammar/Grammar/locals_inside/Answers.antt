@@ -1,7 +1,7 @@
 use Rattle.std.proofs.Common.{map, subst, sym, List, Bool, Vec, Global}
 use Rattle.ms_syntax.specs.declared.tree.Declaration.{Declaration}
 use Rattle.ms_syntax.specs.Tree.{Decl, declaration_view}
-use Rattle.ms_expressions.specs.Reads.{Reads}
+use Rattle.ms_cursor.specs.Reads.{Reads}
 use Rattle.ms_expressions.proofs.Depth.{locals_inside}
 use Rattle.ms_expressions.proofs.grammar.Grammar.locals_inside.Goals as goal
 

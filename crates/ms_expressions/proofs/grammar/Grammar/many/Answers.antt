@@ -1,6 +1,6 @@
 use Rattle.std.proofs.Common.{◌∙◌, ap, map, subst, Vec, Global}
-use Rattle.ms_expressions.specs.Reading.{many, grown}
-use Rattle.ms_expressions.specs.Reads.{Reads}
+use Rattle.ms_cursor.specs.Reading.{many, grown}
+use Rattle.ms_cursor.specs.Reads.{Reads}
 use Rattle.ms_expressions.proofs.Loops.{grown_none}
 use Rattle.ms_expressions.proofs.grammar.Grammar.many.Goals as goal
 

@@ -1,5 +1,5 @@
 use Rattle.std.proofs.Common.{◌≡◌, map, ◌-◌, length}
-use Rattle.ms_expressions.specs.Reading.{many, many_to, grown}
+use Rattle.ms_cursor.specs.Reading.{many, many_to, grown}
 use Rattle.ms_expressions.proofs.grammar.Grammar.more.Given as goal
 
 abbrev pub invariant-loop-turn : goal.invariant-loop-turn

@@ -2,7 +2,7 @@ use Rattle.std.proofs.Common.{suc, map, [], ◌∷◌, ap, ◌∙◌, arith}
 use Rattle.std.proofs.lemmas.List.{map-append}
 use Rattle.std.proofs.lemmas.Result.{err_from_is_err_and}
 use Rattle.ms_syntax.specs.Tree.{declaration_view}
-use Rattle.ms_expressions.specs.Reads.{turn_view}
+use Rattle.ms_expressions.specs.Nests.{turn_view}
 use Rattle.ms_expressions.specs.Rules.{under, more_locals, local_turn}
 use Rattle.ms_expressions.proofs.Told.{told}
 use Rattle.ms_expressions.proofs.Turns.{locals_unroll, locals_over, locals_open, turn_more, turn_last, turn_fails, turns_over}

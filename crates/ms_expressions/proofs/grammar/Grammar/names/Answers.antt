@@ -1,7 +1,7 @@
 use Rattle.std.proofs.Common.{map, subst, sym, Vec, Global}
 use Rattle.ms_syntax.specs.declared.tree.Binder.{Binder}
 use Rattle.ms_syntax.specs.Tree.{binder_view}
-use Rattle.ms_expressions.specs.Reads.{Reads}
+use Rattle.ms_cursor.specs.Reads.{Reads}
 use Rattle.ms_expressions.proofs.Separated.{names_are}
 use Rattle.ms_expressions.proofs.grammar.Grammar.names.Goals as goal
 

@@ -2,9 +2,9 @@ use Rattle.std.proofs.Common.{suc, map, [], ◌∷◌, ap, ◌∙◌, sym, subst
 use Rattle.std.proofs.lemmas.List.{map-append}
 use Rattle.ms_syntax.specs.Tree.{note_view}
 use Rattle.ms_syntax.specs.declared.token.Symbol.TheVariants as s
-use Rattle.ms_expressions.specs.Reading.{ok}
-use Rattle.ms_expressions.specs.Reads.{Fails}
-use Rattle.ms_expressions.specs.Kinds.{symbol}
+use Rattle.ms_cursor.specs.Reading.{ok}
+use Rattle.ms_cursor.specs.Reads.{Fails}
+use Rattle.ms_cursor.specs.Kinds.{symbol}
 use Rattle.ms_expressions.specs.Rules.{under, note_rest}
 use Rattle.ms_expressions.proofs.Loops.{each_step, each_stop, each_fails, each_over}
 use Rattle.std.proofs.lemmas.Result.{err_from_is_err_and}

@@ -1,8 +1,8 @@
 use Rattle.std.proofs.Common.{◌≡◌, suc, map, ◌-◌, length}
 use Rattle.ms_syntax.specs.Tree.{note_view}
 use Rattle.ms_syntax.specs.declared.token.Symbol.TheVariants as s
-use Rattle.ms_expressions.specs.Reading.{many_to, grown}
-use Rattle.ms_expressions.specs.Kinds.{symbol}
+use Rattle.ms_cursor.specs.Reading.{many_to, grown}
+use Rattle.ms_cursor.specs.Kinds.{symbol}
 use Rattle.ms_expressions.specs.Rules.{under, note_rest}
 use Rattle.ms_expressions.proofs.grammar.Grammar.notes.Given as goal
 

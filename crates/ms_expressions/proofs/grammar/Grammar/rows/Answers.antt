@@ -2,9 +2,9 @@ use Rattle.std.proofs.Common.{map, subst, sym, Vec, Global}
 use Rattle.ms_syntax.specs.declared.token.Symbol.TheVariants as s
 use Rattle.ms_syntax.specs.declared.tree.Row.{Row}
 use Rattle.ms_syntax.specs.Tree.{row_view, rows_of}
-use Rattle.ms_expressions.specs.Kinds.{symbol}
-use Rattle.ms_expressions.specs.Reading.{separated}
-use Rattle.ms_expressions.specs.Reads.{Reads}
+use Rattle.ms_cursor.specs.Kinds.{symbol}
+use Rattle.ms_cursor.specs.Reading.{separated}
+use Rattle.ms_cursor.specs.Reads.{Reads}
 use Rattle.ms_expressions.specs.Rules.{under, list}
 use Rattle.ms_expressions.proofs.Separated.{rows_are, reads_as}
 use Rattle.ms_expressions.proofs.grammar.Grammar.rows.Goals as goal

@@ -1,7 +1,7 @@
 use Rattle.std.proofs.Common.{◌∙◌, ◌++◌, ◌∷◌, [], ap, map, subst, Vec, Global}
 use Rattle.std.proofs.lemmas.Result.{err_from_is_err_and}
-use Rattle.ms_expressions.specs.Reading.{many, grown}
-use Rattle.ms_expressions.specs.Reads.{Reads}
+use Rattle.ms_cursor.specs.Reading.{many, grown}
+use Rattle.ms_cursor.specs.Reads.{Reads}
 use Rattle.ms_expressions.proofs.Separated.{after_first, first_fails, some_read}
 use Rattle.ms_expressions.proofs.grammar.Grammar.separated.Goals as goal
 

@@ -1,7 +1,7 @@
 //! The levels of operators.
 
 ghost use Rattle.std.specs.Prelude.{◌≡◌, ◌<◌};
-ghost use Rattle.ms_expressions.specs.Level.{tighter, operands_of, is_single};
+ghost use Rattle.ms_cursor.specs.Level.{tighter, operands_of, is_single};
 
 /// A level of operators, which bind the looser the later they come.
 #[derive(Clone, Copy)]

@@ -1,8 +1,8 @@
 -- The levels of operators by their numbers.
 use Rattle.std.specs.Prelude.{ℕ, suc, Bool, ◌==◌, ◌||◌}
 use Rattle.ms_syntax.specs.Tree.{of_range, of_membership, of_comparison}
-use Rattle.ms_expressions.specs.declared.level.Level.{Level}
-use Rattle.ms_expressions.specs.declared.level.Level.TheVariants as lv
+use Rattle.ms_cursor.specs.declared.level.Level.{Level}
+use Rattle.ms_cursor.specs.declared.level.Level.TheVariants as lv
 
 -- how many levels bind tighter
 abbrev pub tighter : Level → ℕ

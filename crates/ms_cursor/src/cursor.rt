@@ -2,10 +2,10 @@
 
 ghost use Rattle.std.specs.Prelude.{◌≡◌, ◌↔◌, [], length, is_some, option_map, IsTrue};
 ghost use Rattle.std.specs.Prelude.{if◌then◌else◌};
-ghost use Rattle.ms_expressions.specs.Reading.{front, after, must, place_at, finish};
-ghost use Rattle.ms_expressions.specs.Reads.{Reads};
-ghost use Rattle.ms_expressions.specs.Kinds as kinds;
-ghost use Rattle.ms_expressions.specs.Level.{operands_of};
+ghost use Rattle.ms_cursor.specs.Reading.{front, after, must, place_at, finish};
+ghost use Rattle.ms_cursor.specs.Reads.{Reads};
+ghost use Rattle.ms_cursor.specs.Kinds as kinds;
+ghost use Rattle.ms_cursor.specs.Level.{operands_of};
 
 use crate::kind::{begins_kind, infix, sign, truth};
 use crate::level::Level;
@@ -91,7 +91,7 @@ impl<'a> Cursor<'a> {
     }
 
     /// Takes the next token if it is a name.
-    pub(crate) fn eat_name(&mut self) -> Option<(&'a Word, &'a Spanned)>
+    pub fn eat_name(&mut self) -> Option<(&'a Word, &'a Spanned)>
         ensures taken { option_map (λ r. (r.0.now, r.1.now)) result ≡ front kinds.a_name self.old }
         ensures rest { self.new ≡ (if is_some result then after self.old else self.old) }
     {
@@ -106,7 +106,7 @@ impl<'a> Cursor<'a> {
     }
 
     /// Takes the next token, which has to be a name.
-    pub(crate) fn expect_name(&mut self) -> Result<(&'a Word, &'a Spanned), Stop>
+    pub fn expect_name(&mut self) -> Result<(&'a Word, &'a Spanned), Stop>
         ensures { Reads (λ r. (r.0.now, r.1.now)) (must kinds.a_name self.old) result self.new }
     {
         let left = self.left();
@@ -114,7 +114,7 @@ impl<'a> Cursor<'a> {
     }
 
     /// Takes the next token if it is a text.
-    pub(crate) fn eat_text(&mut self) -> Option<(&'a Word, &'a Spanned)>
+    pub fn eat_text(&mut self) -> Option<(&'a Word, &'a Spanned)>
         ensures taken { option_map (λ r. (r.0.now, r.1.now)) result ≡ front kinds.a_text self.old }
         ensures rest { self.new ≡ (if is_some result then after self.old else self.old) }
     {
@@ -137,7 +137,7 @@ impl<'a> Cursor<'a> {
     }
 
     /// Takes the next token if it is a number.
-    pub(crate) fn eat_number(&mut self) -> Option<(u64, &'a Spanned)>
+    pub fn eat_number(&mut self) -> Option<(u64, &'a Spanned)>
         ensures taken { option_map (λ r. (r.0, r.1.now)) result ≡ front kinds.a_number self.old }
         ensures rest { self.new ≡ (if is_some result then after self.old else self.old) }
     {
@@ -152,7 +152,7 @@ impl<'a> Cursor<'a> {
     }
 
     /// Takes the next token if it is `true` or `false`.
-    pub(crate) fn eat_truth(&mut self) -> Option<(bool, &'a Spanned)>
+    pub fn eat_truth(&mut self) -> Option<(bool, &'a Spanned)>
         ensures taken { option_map (λ r. (r.0, r.1.now)) result ≡ front kinds.a_truth self.old }
         ensures rest { self.new ≡ (if is_some result then after self.old else self.old) }
     {
@@ -163,7 +163,7 @@ impl<'a> Cursor<'a> {
     }
 
     /// Takes the next token if it is a sign.
-    pub(crate) fn eat_sign(&mut self) -> Option<(Sign, &'a Spanned)>
+    pub fn eat_sign(&mut self) -> Option<(Sign, &'a Spanned)>
         ensures taken { option_map (λ r. (r.0, r.1.now)) result ≡ front kinds.a_sign self.old }
         ensures rest { self.new ≡ (if is_some result then after self.old else self.old) }
     {
@@ -174,7 +174,7 @@ impl<'a> Cursor<'a> {
     }
 
     /// Whether the next token is an operator of the level.
-    pub(crate) fn sees_infix(&self, level: Level) -> bool
+    pub fn sees_infix(&self, level: Level) -> bool
         ensures { result ≡ is_some (front (kinds.infix_of (operands_of level)) self.now) }
     {
         match self.rest.first() {
@@ -184,7 +184,7 @@ impl<'a> Cursor<'a> {
     }
 
     /// Takes the next token if it is an operator of the level.
-    pub(crate) fn eat_infix(&mut self, level: Level) -> Option<(Operator, &'a Spanned)>
+    pub fn eat_infix(&mut self, level: Level) -> Option<(Operator, &'a Spanned)>
         ensures taken { option_map (λ r. (r.0, r.1.now)) result ≡ front (kinds.infix_of (operands_of level))
             self.old }
         ensures rest { self.new ≡ (if is_some result then after self.old else self.old) }

@@ -1,25 +1,15 @@
--- What a function that parses ensures: the outcome of its rule, unless memory fails.
-use Rattle.std.specs.Prelude.{◌≡◌, ◌≤◌, ℕ, Result, Ok, Err}
+-- Function values that read expressions, and what a turn of a list stands for.
+use Rattle.std.specs.Prelude.{◌≡◌, ◌≤◌, ℕ, Result}
 use Rattle.std.specs.declared.alloc.Global.{Global}
 use denote.Ref.{MutBor}
 use Rattle.ms_syntax.specs.declared.tree.Expr.{Expr}
 use Rattle.ms_syntax.specs.Tree.{ex_view}
 use Rattle.ms_syntax.specs.Grammar.{Tokens}
-use Rattle.ms_expressions.specs.declared.stop.Stop.{Stop}
-use Rattle.ms_expressions.specs.declared.stop.Stop.TheVariants.{Syntax, Deep, Memory}
+use Rattle.ms_cursor.specs.declared.stop.Stop.{Stop}
+use Rattle.ms_cursor.specs.Reads.{Reads}
 use Rattle.ms_expressions.specs.declared.reach.Reach.{Reach}
-use Rattle.ms_expressions.specs.Reading.{Out, ok, bad, deep}
 use Rattle.ms_expressions.specs.Rules.{under, Turn, item, last}
 use Rattle.ms_expressions.specs.declared.turn.Turn.{Turn as Ends}
-
-abbrev pub Fails : {A : Type 0} → Out A → Stop → Type 0
-Fails outcome Memory = Unit {0}
-Fails outcome (Syntax n) = outcome ≡ bad n
-Fails outcome (Deep n) = outcome ≡ deep n
-
-abbrev pub Reads : {X A : Type 0} → (X → A) → Out A → Result X Stop → Tokens → Type 0
-Reads view outcome (Ok a) new = outcome ≡ ok (view a) new
-Reads view outcome (Err e) new = Fails outcome e
 
 -- a function value that reads an expression where so many brackets may open, or fewer
 pub record Nests (depth : ℕ) (pre : Global → MutBor Tokens → ℕ → Reach → Type 0) (post : Global → MutBor Tokens → ℕ → Reach → Result Expr Stop → MutBor Tokens → Type 0) : Type 0 where

@@ -2,7 +2,7 @@
 
 ghost use Rattle.std.specs.Prelude.{◌≡◌, is_some, Option};
 ghost use Rattle.ms_syntax.specs.declared.token.Token.{Token};
-ghost use Rattle.ms_expressions.specs.Kinds as kinds;
+ghost use Rattle.ms_cursor.specs.Kinds as kinds;
 
 use ms_syntax::{Keyword, Symbol, Token};
 

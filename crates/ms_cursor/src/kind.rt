@@ -1,9 +1,9 @@
 //! Kinds of tokens.
 
 ghost use Rattle.std.specs.Prelude.{◌≡◌};
-ghost use Rattle.ms_expressions.specs.Kinds as kinds;
+ghost use Rattle.ms_cursor.specs.Kinds as kinds;
 ghost use Rattle.ms_syntax.specs.Grammar.{operands};
-ghost use Rattle.ms_expressions.specs.Level.{operands_of};
+ghost use Rattle.ms_cursor.specs.Level.{operands_of};
 
 use crate::level::Level;
 use ms_syntax::{Keyword, Operator, Sign, Symbol, Token};

@@ -15,7 +15,7 @@ pub enum Stop {
 
 impl From<AllocError> for Stop {
     ghost use Rattle.std.specs.Prelude.{◌≡◌};
-    ghost use Rattle.ms_expressions.specs.declared.stop.Stop.TheVariants.{Memory};
+    ghost use Rattle.ms_cursor.specs.declared.stop.Stop.TheVariants.{Memory};
 
     ghost from_gives = { λ _ e. e ≡ Memory };
 
@@ -26,7 +26,7 @@ impl From<AllocError> for Stop {
 
 impl<T: Drop> From<AllocFailed<T>> for Stop {
     ghost use Rattle.std.specs.Prelude.{◌≡◌};
-    ghost use Rattle.ms_expressions.specs.declared.stop.Stop.TheVariants.{Memory};
+    ghost use Rattle.ms_cursor.specs.declared.stop.Stop.TheVariants.{Memory};
 
     ghost from_gives = { λ _ e. e ≡ Memory };
 

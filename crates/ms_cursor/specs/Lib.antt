@@ -1,0 +1,4 @@
+pub mod Kinds
+pub mod Level
+pub mod Reading
+pub mod Reads
