@@ -5,36 +5,38 @@ use ms_parser::{assignments, model, statement};
 use ms_syntax::{Expr, Generators, Item, Place};
 use std::test::Fail;
 
+/// Expressions with their line and column.
+const EXPRESSIONS: [(&str, u32, u32); 25] = [
+    ("1", 1, 1),
+    ("  x", 1, 3),
+    ("% nothing\n\t\"a\"", 2, 2),
+    ("not a", 1, 1),
+    ("- x[1]", 1, 1),
+    ("xs[1][2]", 1, 1),
+    ("(a + b) * c", 1, 9),
+    ("a + b", 1, 3),
+    ("a + b - c", 1, 7),
+    ("a ++ b ++ c", 1, 3),
+    ("a\n  * b\n  div c", 3, 3),
+    ("a -> b <- c", 1, 8),
+    ("a <-> b <-> c", 1, 9),
+    ("a \\/ b xor c", 1, 8),
+    ("a /\\ b", 1, 3),
+    ("a + b < c * d", 1, 7),
+    ("x in 1..2", 1, 3),
+    ("1 .. 2", 1, 3),
+    ("f(a)", 1, 1),
+    ("forall(i in s)(e)", 1, 1),
+    (" [a | i in s]", 1, 2),
+    ("[| a |]", 1, 1),
+    ("{a}", 1, 1),
+    ("if a then b else c endif", 1, 1),
+    ("let { int: a } in a + b", 1, 1),
+];
+
 #[test]
 fn expressions_stand_at_their_first_token_or_operator(rt: HostRuntime) -> Result<(), Fail> {
-    let cases = [
-        ("1", 1, 1),
-        ("  x", 1, 3),
-        ("% nothing\n\t\"a\"", 2, 2),
-        ("not a", 1, 1),
-        ("- x[1]", 1, 1),
-        ("xs[1][2]", 1, 1),
-        ("(a + b) * c", 1, 9),
-        ("a + b", 1, 3),
-        ("a + b - c", 1, 7),
-        ("a ++ b ++ c", 1, 3),
-        ("a\n  * b\n  div c", 3, 3),
-        ("a -> b <- c", 1, 8),
-        ("a <-> b <-> c", 1, 9),
-        ("a \\/ b xor c", 1, 8),
-        ("a /\\ b", 1, 3),
-        ("a + b < c * d", 1, 7),
-        ("x in 1..2", 1, 3),
-        ("1 .. 2", 1, 3),
-        ("f(a)", 1, 1),
-        ("forall(i in s)(e)", 1, 1),
-        (" [a | i in s]", 1, 2),
-        ("[| a |]", 1, 1),
-        ("{a}", 1, 1),
-        ("if a then b else c endif", 1, 1),
-        ("let { int: a } in a + b", 1, 1),
-    ];
-    for (case, line, col) in cases {
+    for (case, line, col) in EXPRESSIONS {
         match statement(rt.alloc(), &tokens(&rt, rt.alloc(), case)?) {
             Ok(tree) => assert_eq!(rt; at(tree.place()), (line, col), "{case}"),
             Err(_) => assert!(rt; false, "{case}"),
@@ -56,14 +58,16 @@ fn generators(tree: &Expr) -> Option<&Generators> {
     }
 }
 
+/// Expressions over two generators, with the line and the column of each.
+const GENERATORS: [(&str, [(u32, u32); 2]); 3] = [
+    ("[a | i, j in s,\n k in t]", [(1, 6), (2, 2)]),
+    ("sum(i, j in s, k in t)(a)", [(1, 5), (1, 16)]),
+    ("sum(i in s,\n  j, k in t where c)(a)", [(1, 5), (2, 3)]),
+];
+
 #[test]
 fn generators_stand_at_their_first_name(rt: HostRuntime) -> Result<(), Fail> {
-    let cases = [
-        ("[a | i, j in s,\n k in t]", [(1, 6), (2, 2)]),
-        ("sum(i, j in s, k in t)(a)", [(1, 5), (1, 16)]),
-        ("sum(i in s,\n  j, k in t where c)(a)", [(1, 5), (2, 3)]),
-    ];
-    for (case, wanted) in cases {
+    for (case, wanted) in GENERATORS {
         match statement(rt.alloc(), &tokens(&rt, rt.alloc(), case)?) {
             Ok(tree) => match generators(&tree) {
                 Some(found) => {
@@ -80,22 +84,24 @@ fn generators_stand_at_their_first_name(rt: HostRuntime) -> Result<(), Fail> {
     Ok(())
 }
 
+/// Items, one a line, each a column further than the one before, and from the first again after four.
+const ITEMS: [&str; 10] = [
+    "include \"a\";",
+    " enum E = {A};",
+    "  1..2: x;",
+    "   var int: y :: n = 1;",
+    "y = 2;",
+    " constraint x < y;",
+    "  solve :: n satisfy;",
+    "   output [x];",
+    "predicate p(int: a) = a > 1;",
+    " function int: f() = 1",
+];
+
 #[test]
 fn items_stand_at_their_first_token(rt: HostRuntime) -> Result<(), Fail> {
-    let lines = [
-        "include \"a\";",
-        " enum E = {A};",
-        "  1..2: x;",
-        "   var int: y :: n = 1;",
-        "y = 2;",
-        " constraint x < y;",
-        "  solve :: n satisfy;",
-        "   output [x];",
-        "predicate p(int: a) = a > 1;",
-        " function int: f() = 1",
-    ];
     let mut text = String::new(rt.alloc());
-    for line in lines {
+    for line in ITEMS {
         text.push_str(line)?;
         text.push_str("\n")?;
     }

@@ -37,68 +37,70 @@ fn shape(tree: &Expr) -> (&'static str, usize) {
     }
 }
 
+/// Expressions, what each is at its top, and how many parts it has there.
+const FORMS: [(&str, &str, usize); 41] = [
+    ("1", "number", 0),
+    ("a", "name", 0),
+    ("true", "truth", 0),
+    ("\"a\"", "text", 0),
+    ("f ( )", "call", 0),
+    ("f ( a , 1 )", "call", 2),
+    ("f ( i , j )", "call", 2),
+    ("f ( i in s )", "call", 1),
+    ("f ( i in s ) ( e )", "call over", 1),
+    (
+        "f ( i , j in 1 .. 2 , k in s where c ) ( e + 1 )",
+        "call over",
+        2,
+    ),
+    ("( a )", "parentheses", 0),
+    ("( a ) + b", "sum", 1),
+    ("[ ]", "array", 0),
+    ("[ a ]", "array", 1),
+    ("[ a , b , c ]", "array", 3),
+    ("[ a | i in s ]", "comprehension", 1),
+    ("[ a | i , j in s , k in t where c ]", "comprehension", 2),
+    ("[| |]", "rows", 0),
+    ("[| a , b | c , d |]", "rows", 2),
+    ("{ }", "set", 0),
+    ("{ a , b }", "set", 2),
+    ("if a then b else c endif", "if", 0),
+    (
+        "if a then b elseif c then d elseif e then f else g endif",
+        "if",
+        2,
+    ),
+    ("a [ 1 ]", "access", 1),
+    ("a [ 1 , 2 ] [ 3 ]", "access", 2),
+    ("not a", "sign", 1),
+    ("not a = b", "comparison", 1),
+    ("- x [ 1 ]", "sign", 1),
+    ("- 1 + 2", "sum", 1),
+    ("a ++ b ++ c", "concatenation", 2),
+    ("a * b div c mod d", "product", 3),
+    ("a <-> b -> c <- d \\/ e xor f /\\ g = h", "equivalence", 1),
+    ("b -> c <- d \\/ e", "implication", 2),
+    ("d \\/ e xor f /\\ g", "disjunction", 2),
+    ("next ( ) /\\ skip", "conjunction", 1),
+    ("a = b /\\ c = d", "conjunction", 1),
+    ("a in 1 .. 2 + 3 * 4 div 5 mod 6", "membership", 1),
+    ("1 .. 2 + 3", "range", 1),
+    ("let { int : a } in a", "let", 1),
+    (
+        "let { var 1 .. 2 : a = 1 ; set of int : b :: n ( a ) :: m ; } in a + b",
+        "let",
+        2,
+    ),
+    (
+        "let { array [ int , 1 .. 2 ] of set of 1 .. 2 : a } in ( let { s : b ; } in b )",
+        "let",
+        1,
+    ),
+];
+
 #[test]
 fn reads_each_form(rt: HostRuntime) -> Result<(), Fail> {
-    let cases = [
-        ("1", "number", 0),
-        ("a", "name", 0),
-        ("true", "truth", 0),
-        ("\"a\"", "text", 0),
-        ("f ( )", "call", 0),
-        ("f ( a , 1 )", "call", 2),
-        ("f ( i , j )", "call", 2),
-        ("f ( i in s )", "call", 1),
-        ("f ( i in s ) ( e )", "call over", 1),
-        (
-            "f ( i , j in 1 .. 2 , k in s where c ) ( e + 1 )",
-            "call over",
-            2,
-        ),
-        ("( a )", "parentheses", 0),
-        ("( a ) + b", "sum", 1),
-        ("[ ]", "array", 0),
-        ("[ a ]", "array", 1),
-        ("[ a , b , c ]", "array", 3),
-        ("[ a | i in s ]", "comprehension", 1),
-        ("[ a | i , j in s , k in t where c ]", "comprehension", 2),
-        ("[| |]", "rows", 0),
-        ("[| a , b | c , d |]", "rows", 2),
-        ("{ }", "set", 0),
-        ("{ a , b }", "set", 2),
-        ("if a then b else c endif", "if", 0),
-        (
-            "if a then b elseif c then d elseif e then f else g endif",
-            "if",
-            2,
-        ),
-        ("a [ 1 ]", "access", 1),
-        ("a [ 1 , 2 ] [ 3 ]", "access", 2),
-        ("not a", "sign", 1),
-        ("not a = b", "comparison", 1),
-        ("- x [ 1 ]", "sign", 1),
-        ("- 1 + 2", "sum", 1),
-        ("a ++ b ++ c", "concatenation", 2),
-        ("a * b div c mod d", "product", 3),
-        ("a <-> b -> c <- d \\/ e xor f /\\ g = h", "equivalence", 1),
-        ("b -> c <- d \\/ e", "implication", 2),
-        ("d \\/ e xor f /\\ g", "disjunction", 2),
-        ("next ( ) /\\ skip", "conjunction", 1),
-        ("a = b /\\ c = d", "conjunction", 1),
-        ("a in 1 .. 2 + 3 * 4 div 5 mod 6", "membership", 1),
-        ("1 .. 2 + 3", "range", 1),
-        ("let { int : a } in a", "let", 1),
-        (
-            "let { var 1 .. 2 : a = 1 ; set of int : b :: n ( a ) :: m ; } in a + b",
-            "let",
-            2,
-        ),
-        (
-            "let { array [ int , 1 .. 2 ] of set of 1 .. 2 : a } in ( let { s : b ; } in b )",
-            "let",
-            1,
-        ),
-    ];
-    for (case, kind, parts) in cases {
+    for (case, kind, parts) in FORMS {
         match statement(rt.alloc(), &tokens(&rt, rt.alloc(), case)?) {
             Ok(tree) => {
                 let (found, count) = shape(&tree);
@@ -137,10 +139,12 @@ fn number(tree: &Expr) -> Option<u64> {
     }
 }
 
+/// Sums of numbers with what they come to.
+const SUMS: [(&str, u64); 3] = [("7 - 2 - 1", 4), ("7 - 2 + 1", 6), ("1 + 2 + 3 - 4", 2)];
+
 #[test]
 fn chains_keep_their_order(rt: HostRuntime) -> Result<(), Fail> {
-    let cases = [("7 - 2 - 1", 4), ("7 - 2 + 1", 6), ("1 + 2 + 3 - 4", 2)];
-    for (case, sum) in cases {
+    for (case, sum) in SUMS {
         match statement(rt.alloc(), &tokens(&rt, rt.alloc(), case)?) {
             Ok(tree) => assert_eq!(rt; total(&tree), Some(sum), "{case}"),
             Err(_) => assert!(rt; false, "{case}"),
