@@ -7,7 +7,7 @@ use Rattle.ms_num.proofs.SharedSpans.{of_le}
 use Rattle.ms_trees.specs.declared.tree.Ground.{Ground}
 use Rattle.ms_trees.specs.Enclosure.{span_at}
 use Rattle.ms_trees.specs.WellFormed.{IsTruth}
-use Rattle.ms_trees.specs.Laws.{LiesIn, Refuted, RefutedMeansUnmet, SmallerBoxesStayWellFormed}
+use Rattle.ms_trees.specs.Laws.{LiesIn, IsRefuted, RefutedMeansUnmet, SmallerBoxesStayWellFormed}
 use Rattle.ms_num.specs.Sets.{Set, IsSet, Among, span_of, spans_of, declared_span, declared_spans}
 use Rattle.ms_boxes.specs.Boxes.{Assignment, Box, Each, InBox, IsBox, IsDeclared, IsProper}
 use Rattle.ms_boxes.specs.Trees.{Holds, HoldsNone, IsConstraint}
@@ -28,7 +28,7 @@ pub lies_in : (b : Box) (q : Assignment) → IsProper b → InBox q b → LiesIn
 lies_in b q i h = record { same_length = same_length b q h; within = lies_within b q i h }
 
 -- where a constraint is refuted on a box no assignment of the box meets them all
-pub refuted_none : RefutedMeansUnmet → (b : Box) (cons : List Ground) → IsProper b → All (IsTruth (spans_of b)) cons → Any (Refuted (spans_of b)) cons → HoldsNone cons b
+pub refuted_none : RefutedMeansUnmet → (b : Box) (cons : List Ground) → IsProper b → All (IsTruth (spans_of b)) cons → Any (IsRefuted (spans_of b)) cons → HoldsNone cons b
 refuted_none law b cons i fit r q h m =
     let g = r.1 in
     let t : IsTruth (spans_of b) g = subst (IsTruth (spans_of b)) r.3 (fit r.0 g r.2) in

@@ -6,7 +6,7 @@ use Rattle.std.proofs.Math.Nat.{mul-le-mul_left, mul-le-mul_right}
 use Rattle.ms_num.specs.Numbers.{int_eq}
 use Rattle.ms_trees.specs.declared.branching.Branching.{Branching}
 use Rattle.ms_num.specs.Sets.{set_size}
-use Rattle.ms_boxes.specs.Boxes.{Assignment, Box, InBox, IsBox, Within, box_size, set_at, number_at, least_point}
+use Rattle.ms_boxes.specs.Boxes.{Assignment, Box, InBox, IsBox, Covers, box_size, set_at, number_at, least_point}
 use Rattle.ms_boxes.specs.Nodes.{Language, SplitsIn}
 use Rattle.ms_boxes.specs.Laws.{AllBefore, Parts, SplitsGiveParts, PartsStandInOrder}
 use Rattle.ms_num.proofs.SharedSpans.{le_from, of_le, and_left}
@@ -38,7 +38,7 @@ lows_in (d ∷ sets) (s ∷ b) i = (i.0.low, lows_in sets b i.2)
 pub products : (a b c d : ℕ) → a ≤ b → c ≤ d → a * c ≤ b * d
 products a b c d h k = let x = mul-le-mul_right c h in let y = mul-le-mul_left b k in omega (arith, x, y)
 
-pub within_size : (sets b n : Box) → IsBox sets b → IsBox sets n → Within b n → box_size n ≤ box_size b
+pub within_size : (sets b n : Box) → IsBox sets b → IsBox sets n → Covers b n → box_size n ≤ box_size b
 within_size [] [] [] i j w = omega arith
 within_size [] (s ∷ b) n i j w = absurd i
 within_size [] [] (t ∷ n) i j w = absurd j

@@ -41,7 +41,7 @@ smallest_is_open b (w ∷ vs) v e = by_test (is_unfixed b w) refl e (smallest_is
         by_one (inl f) = ap (is_unfixed b) (sym f) ∙ is
         by_one (inr f) = rest f
 
--- what is picked is named by the branching, or else the first that is open
+-- what is picked is named by the branching, or else the first that is unfixed
 pub record Picked (br : Branching) (b : Box) (v : ℕ) (choice : ValueChoice) : Type 0 where
   pub either : ((named_unfixed br b ≡ Some v) × (choice ≡ br.value)) ⊎ ((named_unfixed br b ≡ None) × (first_unfixed b (places (length b)) ≡ Some v) × (choice ≡ Least))
 
@@ -91,7 +91,7 @@ first_in_left b (v ∷ vs) ws u e = by_test (is_unfixed b v) e (first_in_left b 
     by_test true e rest = e
     by_test false e rest = rest e
 
--- an ordered branching picks the first that is open, with its least value
+-- an ordered branching picks the first that is unfixed, with its least value
 pub record PicksFirst (br : Branching) (b : Box) (v : ℕ) (choice : ValueChoice) : Type 0 where
   pub first : first_unfixed b (comparison_order br (length b)) ≡ Some v
   pub least : choice ≡ Least

@@ -1,4 +1,4 @@
--- Boxes of one assignment, and boxes with a variable that is open.
+-- Boxes of one assignment, and boxes with a variable that is unfixed.
 use Rattle.std.proofs.Common.{◌≡◌, ◌⊎◌, inl, inr, ℕ, ◌+◌, ◌*◌, ◌<◌, ◌≤◌, zero, suc, refl, sym, ap, ◌∙◌, subst, arith, true, false, Bool, if◌then◌else◌, List, [], ◌∷◌, length, Option, Some, None}
 use Rattle.std.specs.Prelude.{ℤ, nat_le, option_map, All}
 use Rattle.ms_trees.specs.WellFormed.{IsTruth}
@@ -18,7 +18,7 @@ use Rattle.ms_num.proofs.SharedSizes.{closed_ends}
 none_not_some : {A : Type 0} (x : A) → Some x ≡ None → ⊥
 none_not_some x e = absurd (cc)
 
--- where nothing is picked no variable is open
+-- where nothing is picked no variable is unfixed
 pub none_picked : (br : Branching) (b : Box) → pick br b ≡ None → first_unfixed b (places (length b)) ≡ None
 none_picked br b e = by_named (named_unfixed br b) e
   where
@@ -61,7 +61,7 @@ box_any (s ∷ b) i = product (set_size s) (box_size b) (size_some s i.0) (box_a
     product (suc m) zero h k = absurd (omega (arith, k))
     product (suc m) (suc n) h k = omega arith
 
--- a box with an open variable has two assignments or more
+-- a box with an unfixed variable has two assignments or more
 pub open_size : (b : Box) (v : ℕ) → IsProper b → is_unfixed b v ≡ true → 2 ≤ box_size b
 open_size [] v i e = absurd (let f = leb-true 2 0 e in omega (arith, f))
 open_size (s ∷ b) zero i e = product (set_size s) (box_size b) (leb-true 2 (set_size s) e) (box_any b i.1)

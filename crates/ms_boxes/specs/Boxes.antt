@@ -66,12 +66,12 @@ frontier_nodes [] = 0
 frontier_nodes (b ∷ bs) = box_nodes b + frontier_nodes bs
 
 -- each assignment that lies in the second box lies in the first
-abbrev pub Within : Box → Box → Type 0
-Within b c = (p : Assignment) → InBox p c → InBox p b
+abbrev pub Covers : Box → Box → Type 0
+Covers b c = (p : Assignment) → InBox p c → InBox p b
 
 -- no assignment lies in both
-abbrev pub Disjoint : Box → Box → Type 0
-Disjoint b c = (p : Assignment) → InBox p b → InBox p c → ⊥
+abbrev pub AreDisjoint : Box → Box → Type 0
+AreDisjoint b c = (p : Assignment) → InBox p b → InBox p c → ⊥
 
 -- no set of the box is empty
 abbrev pub IsProper : Box → Type 0

@@ -11,7 +11,7 @@ use Rattle.ms_boxes.specs.Boxes.{Assignment, Box, number_at, set_at}
 abbrev pub is_unfixed : Box → ℕ → Bool
 is_unfixed b v = nat_le 2 (set_size (set_at b v))
 
--- the first of the variables that is open
+-- the first of the variables that is unfixed
 abbrev pub first_unfixed : Box → List ℕ → Option ℕ
 first_unfixed b [] = None
 first_unfixed b (v ∷ vs) = if is_unfixed b v then Some v else first_unfixed b vs
@@ -21,12 +21,12 @@ abbrev pub smaller_of : Box → ℕ → Option ℕ → Option ℕ
 smaller_of b v None = Some v
 smaller_of b v (Some w) = if nat_le (set_size (set_at b v)) (set_size (set_at b w)) then Some v else Some w
 
--- the first of the open variables with the fewest values
+-- the first of the unfixed variables with the fewest values
 abbrev pub smallest_unfixed : Box → List ℕ → Option ℕ
 smallest_unfixed b [] = None
 smallest_unfixed b (v ∷ vs) = if is_unfixed b v then smaller_of b v (smallest_unfixed b vs) else smallest_unfixed b vs
 
--- the variable that the branching names, where one of its own is open
+-- the variable that the branching names, where one of its own is unfixed
 abbrev pub named_unfixed : Branching → Box → Option ℕ
 named_unfixed br b = if br.by_size then smallest_unfixed b br.order else first_unfixed b br.order
 
@@ -47,7 +47,7 @@ named_or choice None other = option_map with_least other
 named_or choice (Some v) other = Some (v, choice)
 
 -- the variable that is split, and the choice of its values: one that the branching names, or else the first
--- that is open in declared order, with its least value first
+-- that is unfixed in declared order, with its least value first
 abbrev pub pick : Branching → Box → Option (ℕ × ValueChoice)
 pick br b = named_or br.value (named_unfixed br b) (first_unfixed b (places (length b)))
 

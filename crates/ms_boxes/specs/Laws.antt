@@ -2,10 +2,10 @@
 use Rattle.std.specs.Prelude.{◌⊎◌, ◌+◌, ◌≤◌, List, length, All, Any}
 use Rattle.ms_trees.specs.declared.tree.Ground.{Ground}
 use Rattle.ms_trees.specs.WellFormed.{IsTruth}
-use Rattle.ms_trees.specs.Laws.{Refuted}
+use Rattle.ms_trees.specs.Laws.{IsRefuted}
 use Rattle.ms_trees.specs.declared.branching.Branching.{Branching}
 use Rattle.ms_num.specs.Sets.{spans_of}
-use Rattle.ms_boxes.specs.Boxes.{Each, Assignment, Box, InBox, IsBox, IsProper, IsDeclared, Within, Disjoint, box_size}
+use Rattle.ms_boxes.specs.Boxes.{Each, Assignment, Box, InBox, IsBox, IsProper, IsDeclared, Covers, AreDisjoint, box_size}
 use Rattle.ms_boxes.specs.Trees.{IsConstraint, HoldsNone}
 use Rattle.ms_boxes.specs.Branchings.{IsOrdered, Before, comparison_order}
 use Rattle.ms_boxes.specs.Nodes.{Language, MeetsIn, SplitsIn}
@@ -19,9 +19,9 @@ AllBefore br b c = (p q : Assignment) → InBox p b → InBox q c → Before (co
 pub record Parts {C : Type 0} (language : Language C) (sets : Box) (cons : List C) (b c d : Box) : Type 0 where
   pub left_box : IsBox sets c
   pub right_box : IsBox sets d
-  pub left_in : Within b c
-  pub right_in : Within b d
-  pub apart : Disjoint c d
+  pub left_in : Covers b c
+  pub right_in : Covers b d
+  pub apart : AreDisjoint c d
   pub keeps : (p : Assignment) → InBox p b → MeetsIn language cons p → InBox p c ⊎ InBox p d
   pub sizes : box_size c + box_size d ≤ box_size b
 
@@ -40,4 +40,4 @@ ConstraintsFitBoxes = (sets b : Box) → Each IsDeclared sets → IsBox sets b �
 
 -- where interval reasoning refutes a constraint on a box, no assignment of the box meets them all
 abbrev pub RefutedHoldsNone : Type 0
-RefutedHoldsNone = (b : Box) (cons : List Ground) → IsProper b → All (IsTruth (spans_of b)) cons → Any (Refuted (spans_of b)) cons → HoldsNone cons b
+RefutedHoldsNone = (b : Box) (cons : List Ground) → IsProper b → All (IsTruth (spans_of b)) cons → Any (IsRefuted (spans_of b)) cons → HoldsNone cons b

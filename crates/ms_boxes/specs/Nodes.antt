@@ -1,7 +1,7 @@
 -- What one node of a search makes of a box, in any language of constraints.
 use Rattle.std.specs.Prelude.{◌≡◌, ◌≤◌, Bool, true, List, ◌∷◌, Option, Some, None, All}
 use Rattle.ms_trees.specs.declared.branching.Branching.{Branching}
-use Rattle.ms_boxes.specs.Boxes.{Assignment, Box, InBox, IsBox, Within, box_size}
+use Rattle.ms_boxes.specs.Boxes.{Assignment, Box, InBox, IsBox, Covers, box_size}
 use Rattle.ms_boxes.specs.Branchings.{Picks}
 
 -- what a search knows of constraints: whether one holds on an assignment, and whether it may hold on a box, as far
@@ -37,7 +37,7 @@ pub record IsOnlyIn {C : Type 0} (language : Language C) (cons : List C) (b : Bo
 pub record SplitsIn {C : Type 0} (language : Language C) (sets : Box) (br : Branching) (cons : List C) (b c d : Box) : Type 0 where
   pub narrowed : Box
   pub proper : IsBox sets narrowed
-  pub within : Within b narrowed
+  pub within : Covers b narrowed
   pub keeps : KeepsIn language cons b narrowed
   pub several : 2 ≤ box_size narrowed
   pub none_refuted : NoneRefutedIn language cons narrowed

@@ -21,10 +21,6 @@ ground_trees = record { holds = λ p g. (value p g).truth; may_hold = λ b g. (e
 abbrev pub Holds : Assignment → Ground → Type 0
 Holds p g = (value p g).truth ≡ true
 
--- interval reasoning admits that the constraint is true on the box
-abbrev pub MayHold : Box → Ground → Type 0
-MayHold b g = (enclosure (spans_of b) g).may_be_true ≡ true
-
 abbrev pub Meets : List Ground → Assignment → Type 0
 Meets = MeetsIn ground_trees
 

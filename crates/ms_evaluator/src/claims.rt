@@ -1,13 +1,13 @@
 ghost use Rattle.std.specs.Prelude.{◌≡◌, ◌<◌, ◌+◌, true, false, ◌&&◌, length, pos, ◌+ℤ◌, ◌≤ℤ◌};
 ghost use Rattle.ms_trees.specs.Enclosure.{all_some, have_room, some_meet};
-ghost use Rattle.ms_evaluator.specs.Claims.{IsRow, AreRows, IsWhole, IsClaim, IsWholeClaim, row_at};
+ghost use Rattle.ms_evaluator.specs.Claims.{IsSlot, AreSlots, IsWhole, IsClaim, IsWholeClaim, slot_at};
 
 use ms_num::Iv;
 use ms_trees::Enclosure;
 
 /// One place in the order of the claims, and what stands of the part of that index.
 #[derive(Clone, Copy)]
-pub(crate) struct Row {
+pub(crate) struct Slot {
     /// The numbers that are claimed.
     pub lo: i64,
     pub hi: i64,
@@ -19,18 +19,18 @@ pub(crate) struct Row {
 }
 
 // The next claim lies behind this one.
-fn rises_at(rows: &[Row], k: usize) -> bool
-    requires { k < length rows.now }
-    ensures { result ≡ true → k + 1 < length rows.now → ((row_at rows.now k).hi +ℤ pos 1) ≤ℤ (row_at rows.now (k + 1)).lo }
+fn rises_at(slots: &[Slot], k: usize) -> bool
+    requires { k < length slots.now }
+    ensures { result ≡ true → k + 1 < length slots.now → ((slot_at slots.now k).hi +ℤ pos 1) ≤ℤ (slot_at slots.now (k + 1)).lo }
 {
-    if k + 1 >= rows.len() {
+    if k + 1 >= slots.len() {
         return true;
     }
-    rows[k].hi < rows[k + 1].lo
+    slots[k].hi < slots[k + 1].lo
 }
 
 // The claim lies in the interval.
-fn lies_in(part: Enclosure, claim: Row) -> bool
+fn lies_in(part: Enclosure, claim: Slot) -> bool
     ensures { result ≡ true → IsClaim part.interval claim }
 {
     match part.interval {
@@ -40,7 +40,7 @@ fn lies_in(part: Enclosure, claim: Row) -> bool
 }
 
 // The claim is the whole interval.
-fn is_interval(part: Enclosure, claim: Row) -> bool
+fn is_interval(part: Enclosure, claim: Slot) -> bool
     ensures { result ≡ true → IsWholeClaim part.interval claim }
 {
     match part.interval {
@@ -49,61 +49,61 @@ fn is_interval(part: Enclosure, claim: Row) -> bool
     }
 }
 
-fn is_row(parts: &[Enclosure], rows: &[Row], k: usize) -> bool
-    requires count { length rows.now ≡ length parts.now }
+fn is_slot(parts: &[Enclosure], slots: &[Slot], k: usize) -> bool
+    requires count { length slots.now ≡ length parts.now }
     requires there { k < length parts.now }
-    ensures { result ≡ true → IsRow parts.now rows.now k }
+    ensures { result ≡ true → IsSlot parts.now slots.now k }
 {
-    let place = rows[k].place as usize;
-    if place >= rows.len() {
+    let place = slots[k].place as usize;
+    if place >= slots.len() {
         return false;
     }
-    if rows[place].owner as usize != k {
+    if slots[place].owner as usize != k {
         return false;
     }
-    if rows[k].hi < rows[k].lo {
+    if slots[k].hi < slots[k].lo {
         return false;
     }
-    if !lies_in(parts[k], rows[place]) {
+    if !lies_in(parts[k], slots[place]) {
         return false;
     }
-    rises_at(rows, k)
+    rises_at(slots, k)
 }
 
 /// Each part claims numbers of its interval, and no two claim the same.
-pub(crate) fn are_rows(parts: &[Enclosure], rows: &[Row]) -> bool
-    requires { length rows.now ≡ length parts.now }
-    ensures rows { result ≡ true → AreRows parts.now rows.now }
+pub(crate) fn are_slots(parts: &[Enclosure], slots: &[Slot]) -> bool
+    requires { length slots.now ≡ length parts.now }
+    ensures slots { result ≡ true → AreSlots parts.now slots.now }
     ensures room { result ≡ true → (all_some parts.now && have_room parts.now) ≡ true }
 {
     for k in 0..parts.len() {
-        if !is_row(parts, rows, k) {
+        if !is_slot(parts, slots, k) {
             return false;
         }
     }
     true
 }
 
-fn is_whole(parts: &[Enclosure], rows: &[Row], k: usize) -> bool
-    requires count { length rows.now ≡ length parts.now }
+fn is_whole(parts: &[Enclosure], slots: &[Slot], k: usize) -> bool
+    requires count { length slots.now ≡ length parts.now }
     requires there { k < length parts.now }
-    ensures { result ≡ true → IsWhole parts.now rows.now k }
+    ensures { result ≡ true → IsWhole parts.now slots.now k }
 {
-    let place = rows[k].place as usize;
-    if place >= rows.len() {
+    let place = slots[k].place as usize;
+    if place >= slots.len() {
         return false;
     }
-    is_interval(parts[k], rows[place])
+    is_interval(parts[k], slots[place])
 }
 
 /// Each part claims its whole interval.
-pub(crate) fn are_whole(parts: &[Enclosure], rows: &[Row]) -> bool
-    requires count { length rows.now ≡ length parts.now }
-    requires rows { AreRows parts.now rows.now }
+pub(crate) fn are_whole(parts: &[Enclosure], slots: &[Slot]) -> bool
+    requires count { length slots.now ≡ length parts.now }
+    requires slots { AreSlots parts.now slots.now }
     ensures { result ≡ true → some_meet parts.now ≡ false }
 {
     for k in 0..parts.len() {
-        if !is_whole(parts, rows, k) {
+        if !is_whole(parts, slots, k) {
             return false;
         }
     }

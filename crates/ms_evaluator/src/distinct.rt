@@ -1,7 +1,7 @@
 ghost use Rattle.std.specs.Prelude.{◌≡◌, ◌<◌, ◌^◌, ◌&&◌, true, false, length, IfOk, OnOk};
 ghost use Rattle.ms_trees.specs.Enclosure.{distinct as distinct_of, all_some, have_room as have_room_of, some_meet as some_meet_of};
 
-use crate::claims::{Row, are_rows, are_whole};
+use crate::claims::{Slot, are_slots, are_whole};
 use crate::guess::{Guess, claim_intervals, claim_numbers, start};
 use crate::room::{
     all_intervals, have_room, is_crowded, meets_neighbour, some_meet, some_undefined,
@@ -16,7 +16,7 @@ const MOST: usize = 1_000_000_000;
 /// What is kept to see whether numbers may be distinct.
 #[derive(Drop)]
 pub(crate) struct Matching {
-    rows: Vec<Row>,
+    slots: Vec<Slot>,
     free: Vec<u32>,
     keys: Vec<(i64, u32)>,
 }
@@ -24,7 +24,7 @@ pub(crate) struct Matching {
 impl Matching {
     pub(crate) fn new(alloc: Global) -> Matching {
         Matching {
-            rows: Vec::new(alloc),
+            slots: Vec::new(alloc),
             free: Vec::new(alloc),
             keys: Vec::new(alloc),
         }
@@ -50,32 +50,32 @@ impl Matching {
         requires { length parts.now < 2 ^ 32 }
         ensures apart { IfOk result (λ b. b ≡ true → some_meet_of parts.now ≡ false) }
         ensures room { IfOk result (λ b. b ≡ true → (all_some parts.now && have_room_of parts.now) ≡ true) }
-        ensures rows { OnOk result (length self.new.rows.items ≡ length parts.now) }
+        ensures slots { OnOk result (length self.new.slots.items ≡ length parts.now) }
     {
-        start(parts, &mut self.rows, &mut self.keys)?;
-        claim_intervals(parts, self.rows.as_mut_slice(), self.keys.as_slice());
-        let rows = self.rows.as_slice();
-        Ok(are_rows(parts, rows) && are_whole(parts, rows))
+        start(parts, &mut self.slots, &mut self.keys)?;
+        claim_intervals(parts, self.slots.as_mut_slice(), self.keys.as_slice());
+        let slots = self.slots.as_slice();
+        Ok(are_slots(parts, slots) && are_whole(parts, slots))
     }
 
     // Each part has an interval, and each range has room for the parts within it.
     fn has_room(&mut self, parts: &[Enclosure]) -> Result<bool, AllocError>
         requires few { length parts.now < 2 ^ 32 }
-        requires rows { length self.old.rows.items ≡ length parts.now }
+        requires slots { length self.old.slots.items ≡ length parts.now }
         ensures { IfOk result (λ b. b ≡ (all_some parts.now && have_room_of parts.now)) }
     {
-        let rows = self.rows.as_mut_slice();
-        let guess = claim_numbers(parts, rows, &mut self.free, self.keys.as_mut_slice())?;
-        Ok(is_decided(parts, self.rows.as_slice(), guess))
+        let slots = self.slots.as_mut_slice();
+        let guess = claim_numbers(parts, slots, &mut self.free, self.keys.as_mut_slice())?;
+        Ok(is_decided(parts, self.slots.as_slice(), guess))
     }
 }
 
-fn is_decided(parts: &[Enclosure], rows: &[Row], guess: Guess) -> bool
-    requires { length rows.now ≡ length parts.now }
+fn is_decided(parts: &[Enclosure], slots: &[Slot], guess: Guess) -> bool
+    requires { length slots.now ≡ length parts.now }
     ensures { result ≡ (all_some parts.now && have_room_of parts.now) }
 {
     match guess {
-        Guess::Rows => are_rows(parts, rows) || have_room(parts),
+        Guess::Slots => are_slots(parts, slots) || have_room(parts),
         Guess::Range(first, last) => !is_crowded(parts, first, last) && have_room(parts),
     }
 }

@@ -133,7 +133,14 @@ impl Evaluator {
                 let i = self.number(row.get(), sets)?;
                 let j = self.number(column.get(), sets)?;
                 let base = self.push_numbers(parts.as_slice(), sets)?;
-                let x = element_of_grid(top(self.kept.as_slice(), base), *low, *left, *width, i, j);
+                let x = element_of_grid(
+                    top(self.kept.as_slice(), base),
+                    *low,
+                    *left,
+                    *width as usize,
+                    i,
+                    j,
+                );
                 self.kept.truncate(base);
                 Ok(x)
             }

@@ -53,8 +53,9 @@ pub fn number<B: Intervals>(g: &Ground, sets: B) -> Option<Enclosure>
         Ground::Elem2(low, left, width, parts, row, column) => {
             let i = number(row.get(), sets)?;
             let j = number(column.get(), sets)?;
-            let none = misses_grid(*low, *left, *width, parts.len(), i, j);
-            let access = Access::over(*low, *left, *width, parts.len(), i.interval, j.interval);
+            let width = *width as usize;
+            let none = misses_grid(*low, *left, width, parts.len(), i, j);
+            let access = Access::over(*low, *left, width, parts.len(), i.interval, j.interval);
             selected_on(parts.as_slice(), &access, none, sets)
         }
         Ground::Count(parts, a) => count_on(parts.as_slice(), number(a.get(), sets)?, sets),

@@ -60,7 +60,7 @@ pub enum Word {
     /// Lowest index and number of elements; the index is the last.
     Elem(i16, usize),
     /// Lowest index of the rows and of the columns, width, and number of elements; the indices are the last two.
-    Elem2(i16, i16, usize, usize),
+    Elem2(i16, i16, u32, usize),
     /// The number of elements; what is counted is the last.
     Count(usize),
     IteI,
@@ -208,7 +208,7 @@ fn elem2(
     left: &mut Vec<Ground>,
     low: i16,
     first: i16,
-    width: usize,
+    width: u32,
     count: usize,
 ) -> Result<Option<Ground>, AllocError> {
     let Some(column) = part(alloc, left)? else {

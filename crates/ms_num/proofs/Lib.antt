@@ -2,12 +2,8 @@
 pub mod Build
 pub mod Cuts
 pub mod Divisions
-pub mod Images
 pub mod LeastIntervals
-pub mod Members
 pub mod OneCut
-pub mod Quotients
-pub mod Remainders
 pub mod SharedCounts
 pub mod SharedImages
 pub mod SharedMembers
@@ -16,4 +12,3 @@ pub mod SharedRemainders
 pub mod SharedSets
 pub mod SharedSizes
 pub mod SharedSpans
-pub mod Spans

@@ -37,8 +37,8 @@ some_ranges ss i e = false≢true (subst (λ q. (set_of q).has (set_of q).lo ≡
 pub read_some : (sets : List (List Span)) (v : ℕ) (r : List Span) → v < length sets → r ≡ get_or sets v r → IsProper (box_of sets) → r ≢ []
 read_some sets v r l e i = some_ranges r (read_proper sets v r l e i)
 
-pub read_open : (sets : List (List Span)) (v : ℕ) (r : List Span) → v < length sets → r ≡ get_or sets v r → IsProper (box_of sets) → is_unfixed (box_of sets) v ≡ true → (set_of r).lo <ℤ (set_of r).hi
-read_open sets v r l e i o = subst (λ s. s.lo <ℤ s.hi) (sym (set_read sets v r l e)) (open_ends (set_at (box_of sets) v) (proper_set (box_of sets) v (box_within sets v l) i) o)
+pub read_unfixed : (sets : List (List Span)) (v : ℕ) (r : List Span) → v < length sets → r ≡ get_or sets v r → IsProper (box_of sets) → is_unfixed (box_of sets) v ≡ true → (set_of r).lo <ℤ (set_of r).hi
+read_unfixed sets v r l e i o = subst (λ s. s.lo <ℤ s.hi) (sym (set_read sets v r l e)) (open_ends (set_at (box_of sets) v) (proper_set (box_of sets) v (box_within sets v l) i) o)
 
 -- both parts of a cut, each with the other sets as they were
 pub halves_from : (sets c d : List (List Span)) (v : ℕ) (choice : ValueChoice) (q r t u : List Span) → v < length sets → q ≡ get_or sets v q → r ≡ get_or sets v r → IsCut (is_tried choice (set_of q)) (set_of q) (set_of t) → IsCut (is_left choice (set_of r)) (set_of r) (set_of u) → c ≡ slice_set sets v t → d ≡ slice_set sets v u → Halves (box_of sets) v choice (box_of c) (box_of d)

@@ -9,7 +9,7 @@ use Rattle.ms_trees.specs.declared.branching.Branching.{Branching}
 use Rattle.ms_session.specs.declared.budget.Frame.{Frame}
 use Rattle.ms_session.specs.declared.session.Step.{Step}
 use Rattle.ms_num.specs.Sets.{Set, IsSet, Among, set_size}
-use Rattle.ms_boxes.specs.Boxes.{Each, EachPair, IsGiven, InSome, Assignment, Box, InBox, IsBox, Disjoint, box_size, frontier_nodes, IsDeclared}
+use Rattle.ms_boxes.specs.Boxes.{Each, EachPair, IsGiven, InSome, Assignment, Box, InBox, IsBox, AreDisjoint, box_size, frontier_nodes, IsDeclared}
 use Rattle.ms_session.specs.Frames.{spend_one}
 use Rattle.ms_session.specs.Scopes.{Scope, Opens, IsFresh, Next, none_left, stops, gives, goes_on, after_node}
 use Rattle.ms_boxes.specs.Trees.{Meets, Holds, IsConstraint}
@@ -34,7 +34,7 @@ sets_size (d ∷ sets) (s ∷ b) e i = products (set_size s) (set_size d) (box_s
 -- a frontier with at most one box
 pub record Opened (sets : Box) (br : Branching) (cons : List Ground) (fs : List Box) : Type 0 where
   pub boxes : Each (IsBox sets) fs
-  pub apart : EachPair Disjoint fs
+  pub apart : EachPair AreDisjoint fs
   pub covers : (p : Assignment) → InBox p sets → Meets cons p → InSome p fs
   pub bounded : frontier_nodes fs ≤ 2 * box_size sets
   pub in_order : EachPair (AllBefore br) fs

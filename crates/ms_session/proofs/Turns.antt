@@ -50,7 +50,7 @@ smallest_taken b best v vs e = joined_more b best v (smallest_unfixed b vs) ∙ 
 pub smallest_passed : (b : Box) (best : Option ℕ) (v : ℕ) (vs : List ℕ) → is_unfixed b v ≡ false → joined b best (smallest_unfixed b vs) ≡ joined b best (smallest_unfixed b (v ∷ vs))
 smallest_passed b best v vs e = ap (λ t. joined b best (if t then smaller_of b v (smallest_unfixed b vs) else smallest_unfixed b vs)) (sym e)
 
--- ---- the first open variable
+-- ---- the first unfixed variable
 
 -- what is found from the variable v on is what is found of all n
 abbrev pub FirstFrom : Box → ℕ → ℕ → Type 0

@@ -2,7 +2,7 @@
 use Rattle.std.proofs.Common.{◌≡◌, ◌⊎◌, inl, inr, ℕ, sym, ◌∙◌, subst, arith, Bool, List, [], ◌∷◌, ◌++◌, Option}
 use Rattle.ms_trees.specs.declared.tree.Ground.{Ground}
 use Rattle.ms_trees.specs.declared.branching.Branching.{Branching}
-use Rattle.ms_boxes.specs.Boxes.{EachPair, Each, IsGiven, InSome, Assignment, Box, InBox, IsBox, Within, Disjoint}
+use Rattle.ms_boxes.specs.Boxes.{EachPair, Each, IsGiven, InSome, Assignment, Box, InBox, IsBox, Covers, AreDisjoint}
 use Rattle.ms_boxes.specs.Branchings.{comparison_order, Before}
 use Rattle.ms_boxes.specs.Trees.{Meets, Node}
 use Rattle.ms_boxes.specs.Nodes.{drops, answers, splits}
@@ -42,16 +42,16 @@ given_once : (gs : List Assignment) (p : Assignment) → EachPair AreDifferent g
 given_once [] p a new = (tt, tt)
 given_once (g ∷ gs) p a new = (each_last (AreDifferent g) gs p a.0 (λ e. new (inl e)), given_once gs p a.1 (λ h. new (inr h)))
 
-each_some : (b : Box) (bs : List Box) (p : Assignment) → Each (Disjoint b) bs → InBox p b → InSome p bs → ⊥
+each_some : (b : Box) (bs : List Box) (p : Assignment) → Each (AreDisjoint b) bs → InBox p b → InSome p bs → ⊥
 each_some b [] p d h s = s
 each_some b (c ∷ bs) p d h (inl i) = d.0 p h i
 each_some b (c ∷ bs) p d h (inr s) = each_some b bs p d.1 h s
 
-each_within : (b c : Box) (bs : List Box) → Within b c → Each (Disjoint b) bs → Each (Disjoint c) bs
+each_within : (b c : Box) (bs : List Box) → Covers b c → Each (AreDisjoint b) bs → Each (AreDisjoint c) bs
 each_within b c [] w d = tt
 each_within b c (e ∷ bs) w d = (λ p h. d.0 p (w p h), each_within b c bs w d.1)
 
-within_before : (br : Branching) (sets b c : Box) (bs : List Box) → IsBox sets b → IsBox sets c → Within b c → Each (AllBefore br b) bs → Each (AllBefore br c) bs
+within_before : (br : Branching) (sets b c : Box) (bs : List Box) → IsBox sets b → IsBox sets c → Covers b c → Each (AllBefore br b) bs → Each (AllBefore br c) bs
 within_before br sets b c [] i j w a = tt
 within_before br sets b c (e ∷ bs) i j w a = (λ p q hp hq. subst (λ m. Before (comparison_order br m) p q) (box_length sets b i ∙ sym (box_length sets c j)) (a.0 p q (w p hp) hq), within_before br sets b c bs i j w a.1)
 

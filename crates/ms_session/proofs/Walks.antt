@@ -8,7 +8,7 @@ use Rattle.ms_trees.specs.declared.tree.Ground.{Ground}
 use Rattle.ms_trees.specs.declared.tree.Enclosure.{Enclosure}
 use Rattle.ms_trees.specs.Enclosure.{hull_at}
 use Rattle.ms_trees.specs.WellFormed.{IsTruth}
-use Rattle.ms_trees.specs.Laws.{Refuted, RefutedMeansUnmet}
+use Rattle.ms_trees.specs.Laws.{IsRefuted, RefutedMeansUnmet}
 use Rattle.ms_boxes.specs.Boxes.{Box, box_of, IsProper}
 use Rattle.ms_num.specs.Sets.{spans_of}
 use Rattle.ms_boxes.specs.Trees.{HoldsNone, NoneRefuted}
@@ -22,9 +22,9 @@ pub passed_all : {X : Type 0} (P : X → Type 0) (xs : List X) (i : ℕ) → len
 passed_all P xs i l h = subst (All P) (take_all i xs l) h
 
 -- whether a constraint is refuted, by whether each may hold
-pub refuted_by : RefutedMeansUnmet → (b : Box) (cons : List Ground) (spans : List Span) (r : Bool) → IsProper b → All (IsTruth (spans_of b)) cons → spans ≡ spans_of b → MatchBool r (All (MayBeTrue spans) cons) (Any (Refuted spans) cons) → MatchBool (not r) (HoldsNone cons b) (NoneRefuted cons b)
+pub refuted_by : RefutedMeansUnmet → (b : Box) (cons : List Ground) (spans : List Span) (r : Bool) → IsProper b → All (IsTruth (spans_of b)) cons → spans ≡ spans_of b → MatchBool r (All (MayBeTrue spans) cons) (Any (IsRefuted spans) cons) → MatchBool (not r) (HoldsNone cons b) (NoneRefuted cons b)
 refuted_by law b cons spans true i fit e h = subst (λ s. All (MayBeTrue s) cons) e h
-refuted_by law b cons spans false i fit e h = refuted_none law b cons i fit (subst (λ s. Any (Refuted s) cons) e h)
+refuted_by law b cons spans false i fit e h = refuted_none law b cons i fit (subst (λ s. Any (IsRefuted s) cons) e h)
 
 pub not_false : (b : Bool) → not b ≡ false → b ≡ true
 not_false true e = refl

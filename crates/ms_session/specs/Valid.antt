@@ -2,7 +2,7 @@
 use Rattle.std.specs.Prelude.{◌≡◌, ◌⊎◌, ◌+◌, ◌*◌, ◌≤◌, true, List, [], ◌∷◌, ◌++◌, length, All}
 use Rattle.ms_trees.specs.declared.tree.Ground.{Ground}
 use Rattle.ms_trees.specs.declared.branching.Branching.{Branching}
-use Rattle.ms_boxes.specs.Boxes.{IsDeclared, Each, EachPair, IsGiven, Assignment, Box, InBox, InSome, IsBox, Disjoint, box_size, frontier_nodes}
+use Rattle.ms_boxes.specs.Boxes.{IsDeclared, Each, EachPair, IsGiven, Assignment, Box, InBox, InSome, IsBox, AreDisjoint, box_size, frontier_nodes}
 use Rattle.ms_boxes.specs.Branchings.{IsOrdered}
 use Rattle.ms_boxes.specs.Laws.{AllBefore}
 use Rattle.ms_session.specs.Scopes.{Scope, SessionState}
@@ -18,7 +18,7 @@ pub record IsValid (sets : Box) (br : Branching) (sc : Scope) : Type 0 where
   -- the boxes are not empty and lie in the declared sets
   pub boxes : Each (IsBox sets) sc.frontier
   -- they share no assignment with each other, nor with those given
-  pub apart : EachPair Disjoint sc.frontier
+  pub apart : EachPair AreDisjoint sc.frontier
   pub new : (p : Assignment) → IsGiven sc.given p → InSome p sc.frontier → ⊥
   -- what meets the constraints was given, or is still to be found
   pub covers : (p : Assignment) → InBox p sets → Meets sc.cons p → IsGiven sc.given p ⊎ InSome p sc.frontier

@@ -10,7 +10,7 @@ use std::alloc::{AllocError, Global};
 /// The values that are tried first, of a set with two or more.
 pub fn values_tried(alloc: Global, set: &Ranges, choice: ValueChoice) -> Result<Ranges, AllocError>
     requires some { set.now ≢ [] }
-    requires open { (set_of set.now).lo <ℤ (set_of set.now).hi }
+    requires unfixed { (set_of set.now).lo <ℤ (set_of set.now).hi }
     ensures { IfOk result (λ part. IsCut (is_tried choice (set_of set.now)) (set_of set.now) (set_of part)) }
 {
     let whole = set.ends();
@@ -24,7 +24,7 @@ pub fn values_tried(alloc: Global, set: &Ranges, choice: ValueChoice) -> Result<
 /// The values that are left for later, of a set with two or more.
 pub fn values_left(alloc: Global, set: &Ranges, choice: ValueChoice) -> Result<Ranges, AllocError>
     requires some { set.now ≢ [] }
-    requires open { (set_of set.now).lo <ℤ (set_of set.now).hi }
+    requires unfixed { (set_of set.now).lo <ℤ (set_of set.now).hi }
     ensures { IfOk result (λ part. IsCut (is_left choice (set_of set.now)) (set_of set.now) (set_of part)) }
 {
     let whole = set.ends();

@@ -20,7 +20,7 @@ pub fn pick(sets: &[Ranges], branching: &Branching) -> Option<(usize, ValueChoic
     }
 }
 
-// The variable that the branching names, where one of its own is open.
+// The variable that the branching names, where one of its own is unfixed.
 fn named_unfixed(sets: &[Ranges], branching: &Branching) -> Option<usize>
     ensures { result ≡ named_in branching.now (box_of sets.now) }
 {
@@ -53,7 +53,7 @@ fn first_in_order(sets: &[Ranges]) -> Option<usize>
     None
 }
 
-// The first of the open variables with the fewest values.
+// The first of the unfixed variables with the fewest values.
 fn smallest_unfixed(sets: &[Ranges], variables: &[u32]) -> Option<usize>
     ensures { result ≡ smallest_of (box_of sets.now) variables.now }
 {

@@ -1,6 +1,6 @@
 ghost use Rattle.std.specs.Prelude.{◌≡◌, ◌↔◌, ◌<◌, true, All, Any, IsTrue, IfOk, MatchBool, MatchOption, length};
 ghost use Rattle.ms_trees.specs.WellFormed.{IsTruth, is_well_formed};
-ghost use Rattle.ms_trees.specs.Laws.{Refuted};
+ghost use Rattle.ms_trees.specs.Laws.{IsRefuted};
 ghost use Rattle.ms_trees.specs.Enclosure.{points, enclosure, hull_of};
 ghost use Rattle.ms_num.specs.Sets.{spans_of};
 ghost use Rattle.ms_boxes.specs.Boxes.{box_size, box_of, IsProper, least_point};
@@ -108,7 +108,7 @@ fn halves(
     choice: ValueChoice,
 ) -> Result<(Sets, Sets), AllocError>
     requires proper { IsProper (box_of sets) }
-    requires open { unfixed_in (box_of sets) variable ≡ true }
+    requires unfixed { unfixed_in (box_of sets) variable ≡ true }
     requires within { variable < length sets }
     ensures { IfOk result (λ parts. Halves (box_of sets) variable choice (box_of parts.0) (box_of parts.1)) }
 {
@@ -161,7 +161,7 @@ fn meets(constraints: &[Ground], point: &[i64]) -> bool
 fn may_hold(constraints: &[Ground], sets: &[Ranges]) -> bool
     requires proper { IsProper (box_of sets.now) }
     requires fit { All (IsTruth (spans_of (box_of sets.now))) constraints.now }
-    ensures { MatchBool result (All (MayBeTrue (spans_of (box_of sets.now))) constraints.now) (Any (Refuted (spans_of (box_of sets.now))) constraints.now) }
+    ensures { MatchBool result (All (MayBeTrue (spans_of (box_of sets.now))) constraints.now) (Any (IsRefuted (spans_of (box_of sets.now))) constraints.now) }
 {
     for constraint in constraints {
         if !hull_on(constraint, sets).may_be_true {

@@ -136,8 +136,8 @@ fn take_call<S: Session>(
             leave(rt, session);
             Ok(())
         }
-        Call::Post(with_constraint) => {
-            let constraint = posted_tree(alloc, with_constraint)?;
+        Call::Post(posted) => {
+            let constraint = posted_tree(alloc, posted)?;
             post(rt, session, &constraint)
         }
         Call::Found(number) => next_is(rt, session, budget, Expected::Found(&[*number])),

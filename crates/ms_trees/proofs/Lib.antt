@@ -22,3 +22,4 @@ pub mod Keeping
 pub mod Rowed
 pub mod Onward
 pub mod Selections
+pub mod Found

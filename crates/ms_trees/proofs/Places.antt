@@ -22,7 +22,7 @@ use Rattle.ms_trees.proofs.Lists.{AllLess, same_length, has_grows, join_fewer, j
 below_test : (a b : ℕ) → nat_lt a b ≡ true → a < b
 below_test a b h = grind (arith, nat_tests)
 
-test_below : (a b : ℕ) → a < b → nat_lt a b ≡ true
+pub test_below : (a b : ℕ) → a < b → nat_lt a b ≡ true
 test_below a b h = grind (arith, nat_tests)
 
 -- a place from k on passes
@@ -53,8 +53,8 @@ found_in at k (x ∷ xs) e = or_split (at k) (found at (suc k) xs) e (λ h. reco
 -- ---- one place passes
 
 -- no two places pass
-record IsUnique (at : ℕ → Bool) : Type 0 where
-  same : (p q : ℕ) → at p ≡ true → at q ≡ true → p ≡ q
+pub record IsUnique (at : ℕ → Bool) : Type 0 where
+  pub same : (p q : ℕ) → at p ≡ true → at q ≡ true → p ≡ q
 
 no_joined : (at : ℕ → Bool) (k : ℕ) (rs : List Enclosure) → ((p : ℕ) → k ≤ p → at p ≡ false) → r.joined at k rs ≡ None
 no_joined at k [] h = refl
@@ -93,7 +93,7 @@ exact_selected at u k (m ∷ ms) = turn (at k) refl (exact_selected at u (suc k)
 gap : (u w : ℤ) → u ≤ℤ w → (d : ℕ) × (w ≡ u +ℤ pos d)
 gap u w l = (nat_abs (w -ℤ u), omega (arith, ints))
 
-unique_place : (low z : ℤ) → IsUnique (v.is_place low (Some z))
+pub unique_place : (low z : ℤ) → IsUnique (v.is_place low (Some z))
 unique_place low z = record { same = λ p q h k. same p q (eq_of z (low +ℤ pos p) h) (eq_of z (low +ℤ pos q) k) }
   where
     same : (p q : ℕ) → z ≡ (low +ℤ pos p) → z ≡ (low +ℤ pos q) → p ≡ q
@@ -129,16 +129,16 @@ exact_elem low ms (Some z) =
 
 -- ---- two indices
 
-positive : (w p n : ℕ) → p / w < n / w → 0 < w
+pub positive : (w p n : ℕ) → p / w < n / w → 0 < w
 positive zero p n h = absurd (omega (arith, div-zero p, div-zero n))
 positive (suc w) p n h = omega arith
 
-record At2 (k l : ℤ) (w n : ℕ) (y z : ℤ) (p : ℕ) : Type 0 where
-  row : int_eq y (k +ℤ pos (p / w)) ≡ true
-  column : int_eq z (l +ℤ pos (p % w)) ≡ true
-  whole : p / w < n / w
+pub record At2 (k l : ℤ) (w n : ℕ) (y z : ℤ) (p : ℕ) : Type 0 where
+  pub row : int_eq y (k +ℤ pos (p / w)) ≡ true
+  pub column : int_eq z (l +ℤ pos (p % w)) ≡ true
+  pub whole : p / w < n / w
 
-at2 : (k l : ℤ) (w n : ℕ) (y z : ℤ) (p : ℕ) → v.is_place2 k l w n (Some y) (Some z) p ≡ true → At2 k l w n y z p
+pub at2 : (k l : ℤ) (w n : ℕ) (y z : ℤ) (p : ℕ) → v.is_place2 k l w n (Some y) (Some z) p ≡ true → At2 k l w n y z p
 at2 k l w n y z p h =
     let a = and_left (int_eq y (k +ℤ pos (p / w)) && int_eq z (l +ℤ pos (p % w))) (nat_lt (p / w) (n / w)) h in
     record {
@@ -147,7 +147,7 @@ at2 k l w n y z p h =
       whole = below_test (p / w) (n / w) (and_right (int_eq y (k +ℤ pos (p / w)) && int_eq z (l +ℤ pos (p % w))) (nat_lt (p / w) (n / w)) h);
     }
 
-unique_place2 : (k l : ℤ) (w n : ℕ) (y z : ℤ) → IsUnique (v.is_place2 k l w n (Some y) (Some z))
+pub unique_place2 : (k l : ℤ) (w n : ℕ) (y z : ℤ) → IsUnique (v.is_place2 k l w n (Some y) (Some z))
 unique_place2 k l w n y z = record { same = λ p q h g. same p q (at2 k l w n y z p h) (at2 k l w n y z q g) }
   where
     same : (p q : ℕ) → At2 k l w n y z p → At2 k l w n y z q → p ≡ q
@@ -161,7 +161,7 @@ unique_place2 k l w n y z = record { same = λ p q h g. same p q (at2 k l w n y 
         sym (div-add-mod p w) ∙ ap2 (λ s t. w * s + t) rows columns ∙ div-add-mod q w
 
 -- the place of a row and a column
-place_of : (w n r c : ℕ) → r < n / w → c < w → (r * w + c) < n
+pub place_of : (w n r c : ℕ) → r < n / w → c < w → (r * w + c) < n
 place_of w n r c h l =
     let e = div-add-mod n w in
     let m : (suc r) * w ≤ (n / w) * w = more (suc r) (n / w) w h in

@@ -1,5 +1,5 @@
 -- Which element an index takes.
-use Rattle.std.proofs.Common.{◌≡◌, ℕ, ◌+◌, ◌≢◌, List, [], ◌∷◌, Bool, true, false, Option, Some, None, zero, suc, refl, ap, ◌∙◌, sym, arith}
+use Rattle.std.proofs.Common.{◌≡◌, ℕ, ◌+◌, List, [], ◌∷◌, Bool, true, false, Option, Some, None, zero, suc, refl, ap, ◌∙◌, arith}
 use Rattle.std.proofs.lemmas.Int.{ints}
 use Rattle.std.specs.Prelude.{ℤ, pos, ◌+ℤ◌, ◌<ℤ◌, if◌then◌else◌}
 use Rattle.ms_num.specs.Numbers.{int_eq}
@@ -11,10 +11,10 @@ use Rattle.ms_trees.proofs.Bools.{eq_of, of_eq, is_false}
 apart : (low z : ℤ) (p : ℕ) → (z ≡ (low +ℤ pos p) → ⊥) → int_eq z (low +ℤ pos p) ≡ false
 apart low z p h = is_false (int_eq z (low +ℤ pos p)) (λ e. h (eq_of z (low +ℤ pos p) e))
 
-turn_off : (at : ℕ → Bool) (k : ℕ) (m : Meaning) (ms : List Meaning) → at k ≡ false → selected at k (m ∷ ms) ≡ selected at (suc k) ms
+pub turn_off : (at : ℕ → Bool) (k : ℕ) (m : Meaning) (ms : List Meaning) → at k ≡ false → selected at k (m ∷ ms) ≡ selected at (suc k) ms
 turn_off at k m ms e = ap (λ b. if b then m.number else selected at (suc k) ms) e
 
-turn_on : (at : ℕ → Bool) (k : ℕ) (m : Meaning) (ms : List Meaning) → at k ≡ true → selected at k (m ∷ ms) ≡ m.number
+pub turn_on : (at : ℕ → Bool) (k : ℕ) (m : Meaning) (ms : List Meaning) → at k ≡ true → selected at k (m ∷ ms) ≡ m.number
 turn_on at k m ms e = ap (λ b. if b then m.number else selected at (suc k) ms) e
 
 no_sum : (low : ℤ) (k p : ℕ) → (low +ℤ pos (k + suc p)) ≡ (low +ℤ pos k) → ⊥

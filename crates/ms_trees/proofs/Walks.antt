@@ -1,10 +1,10 @@
 -- One turn of the walks over parts, on an assignment.
-use Rattle.std.proofs.Common.{◌≡◌, ℕ, ◌+◌, ◌<◌, ◌≤◌, List, [], ◌∷◌, Bool, true, false, ◌&&◌, Option, Some, None, map, length, drop, get_or, IfSome, ◌^◌, suc, add-one, refl, sym, ap, ◌∙◌, subst, arith}
+use Rattle.std.proofs.Common.{◌≡◌, ℕ, ◌+◌, ◌≤◌, List, [], ◌∷◌, Bool, true, false, ◌&&◌, Option, Some, None, map, length, IfSome, ◌^◌, suc, refl, sym, ap, ◌∙◌, subst, arith}
 use Rattle.std.proofs.lemmas.Int.{ints}
 use Rattle.std.proofs.Math.ListN.{length-map}
 use Rattle.std.specs.Prelude.{ℤ, pos, ◌+ℤ◌, ◌/◌, nat_lt, is_some, if◌then◌else◌}
 use Rattle.ms_num.specs.Numbers.{int_eq}
-use Rattle.ms_num.specs.Span.{IsWithin, is_within}
+use Rattle.ms_num.specs.Span.{IsWithin}
 use Rattle.ms_trees.specs.Value as v
 use Rattle.ms_trees.specs.Value.{Meaning, value, how_many}
 use Rattle.ms_trees.specs.Extreme.{so_far}
@@ -15,11 +15,8 @@ use Rattle.ms_trees.proofs.Parts.{IsNumber}
 use Rattle.ms_trees.specs.declared.tree.Ground.{Ground}
 use Rattle.ms_trees.specs.declared.tree.Ground.TheVariants as g
 use Rattle.ms_trees.specs.declared.tree.Ground.TheFolds.{the_lemmas}
-use Rattle.ms_trees.proofs.Bools.{and_left, and_right, and_true, of_le}
-use Rattle.ms_trees.proofs.Fits.{value_within, drop_here, read_default}
-
-pub within_test : (z : ℤ) → IsWithin z → is_within z ≡ true
-within_test z h = and_true _ _ (of_le _ _ h.low) (of_le _ _ h.high)
+use Rattle.ms_trees.proofs.Bools.{and_left, and_right}
+use Rattle.ms_trees.proofs.Fits.{value_within}
 
 -- the number of a part is within the limits
 pub number_within : (a : List ℤ) (x : Ground) → IsNumber (points a) x → (z : ℤ) → Some z ≡ (value a x).number → IsWithin z
@@ -60,7 +57,6 @@ pub record NumbersOn (a : List ℤ) (ys rest : List Ground) (x : Ground) : Type 
   pub fit : are_numbers (map (checked (points a)) rest) ≡ true
   pub here : IsNumber (points a) x
   pub onward : (f : ℤ → ℤ → Option ℤ) (o : Option ℤ) → onward f o (map (value a) ys) ≡ onward f o (value a x ∷ map (value a) rest)
-  pub selected : (at : ℕ → Bool) (k : ℕ) → v.selected at k (map (value a) ys) ≡ (if at k then (value a x).number else v.selected at (k + 1) (map (value a) rest))
   pub defined : v.all_defined (map (value a) ys) ≡ (is_some (value a x).number && v.all_defined (map (value a) rest))
   pub many : (p : Meaning → Bool) → how_many p (map (value a) ys) ≡ (if p (value a x) then suc (how_many p (map (value a) rest)) else how_many p (map (value a) rest))
 
@@ -72,7 +68,6 @@ numbers_on a ys rest x e fit =
       fit = and_right (is_number (checked (points a) x)) (are_numbers (map (checked (points a)) rest)) f;
       here = record { fit = and_left (is_well_formed (points a) x) (is_numeric x) n; numeric = and_right (is_well_formed (points a) x) (is_numeric x) n };
       onward = λ f o. ap (λ zs. onward f o (map (value a) zs)) e;
-      selected = λ at k. ap (λ zs. v.selected at k (map (value a) zs)) e ∙ ap (λ n. if at k then (value a x).number else v.selected at n (map (value a) rest)) (sym (add-one k));
       defined = ap (λ zs. v.all_defined (map (value a) zs)) e;
       many = λ p. ap (λ zs. how_many p (map (value a) zs)) e;
     }
@@ -147,32 +142,9 @@ elem2_value a k l w xs i j p q e =
     same (Some y) (Some z) (Some s) None h = absurd (no (y, z) (sym h))
     same (Some y) (Some z) (Some s) (Some t) h = one y z s t h
 
-pub second_of_pair : (m n : Option ℤ) (p q : ℤ) → Some (p, q) ≡ v.pair m n → Some q ≡ n
-second_of_pair None n p q e = absurd (no (p, q) e)
-  where
-    no : (x : ℤ × ℤ) → Some x ≡ None → ⊥
-    no x e = cc
-second_of_pair (Some x) None p q e = absurd (no (p, q) e)
-  where
-    no : (x : ℤ × ℤ) → Some x ≡ None → ⊥
-    no x e = cc
-second_of_pair (Some x) (Some y) p q e = ap (λ o. v.image (λ z. Some z) (v.apply (λ s t. Some t) o)) e
-
 pub at_most_one : (b : Bool) (k : ℕ) → k ≡ (if b then 1 else 0) → k ≤ 1
 at_most_one true k e = omega (arith, e)
 at_most_one false k e = omega (arith, e)
-
--- one turn of a walk by place
-pub record NextPlace (a : List ℤ) (ys : List Ground) (at : ℕ → Bool) (k : ℕ) : Type 0 where
-  pub fit : are_numbers (map (checked (points a)) (drop (k + 1) ys)) ≡ true
-  pub rest : v.selected at (k + 1) (map (value a) (drop (k + 1) ys)) ≡ v.selected at k (map (value a) (drop k ys))
-
-pub next_place : (a : List ℤ) (ys : List Ground) (at : ℕ → Bool) (k : ℕ) → k < length ys → are_numbers (map (checked (points a)) (drop k ys)) ≡ true → at k ≡ false → NextPlace a ys at k
-next_place a ys at k lt fit off =
-    let d : Ground = g.Num (pos 0) in
-    let x = get_or ys k d in
-    let on = numbers_on a (drop k ys) (drop (k + 1) ys) x (drop_here ys k x lt (read_default ys k d x lt)) fit in
-    record { fit = on.fit; rest = sym (on.selected at k ∙ ap (λ b. if b then (value a x).number else v.selected at (k + 1) (map (value a) (drop (k + 1) ys))) off) }
 
 count_number : (a : List ℤ) (xs : List Ground) (y : Ground) → (value a (g.Count xs y)).number ≡ v.counted (map (value a) xs) (value a y).number
 count_number a xs y = search the_lemmas

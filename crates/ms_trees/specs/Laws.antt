@@ -116,12 +116,12 @@ pub record LiesIn (a : List ℤ) (b : List Span) : Type 0 where
   pub within : (v : ℕ) → v < length b → Has (span_at b v) (slice_index_or a v (pos 0))
 
 -- the tree may not be true on the box
-abbrev pub Refuted : List Span → Ground → Type 0
-Refuted b g = (enclosure b g).may_be_true ≡ false
+abbrev pub IsRefuted : List Span → Ground → Type 0
+IsRefuted b g = (enclosure b g).may_be_true ≡ false
 
 -- where a Boolean tree is refuted on a box, no assignment of the box meets it
 abbrev pub RefutedMeansUnmet : Type 0
-RefutedMeansUnmet = (b : List Span) (a : List ℤ) → LiesIn a b → (g : Ground) → is_well_formed b g ≡ true → is_numeric g ≡ false → Refuted b g → (value a g).truth ≡ false
+RefutedMeansUnmet = (b : List Span) (a : List ℤ) → LiesIn a b → (g : Ground) → is_well_formed b g ≡ true → is_numeric g ≡ false → IsRefuted b g → (value a g).truth ≡ false
 
 -- ---- an interval and the ranges of a set
 

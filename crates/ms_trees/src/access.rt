@@ -1,7 +1,8 @@
-ghost use Rattle.std.specs.Prelude.{◌≡◌, IsTrue, Some};
-ghost use Rattle.ms_num.specs.Span.{has, is_within, point};
+ghost use Rattle.std.specs.Prelude.{◌≡◌, ◌-ℤ◌, Some};
+ghost use Rattle.ms_num.specs.Span.{has};
+ghost use Rattle.ms_trees.specs.Value.{is_place, is_place2};
 ghost use Rattle.ms_trees.specs.Enclosure.{is_reached};
-ghost use Rattle.ms_trees.specs.Access.{reaches as reached_by};
+ghost use Rattle.ms_trees.specs.Access.{reaches as reached_by, FindsPlace};
 ghost use Rattle.ms_trees.specs.declared.access.Access.TheVariants.{Line, Grid};
 
 use ms_num::Iv;
@@ -24,14 +25,6 @@ impl Access {
         Access::Line(low, index)
     }
 
-    /// The element of the one index.
-    pub fn line(low: i64, index: i64) -> Access
-        requires { IsTrue (is_within index) }
-        ensures { result ≡ Line low (Some (point index)) }
-    {
-        Access::Line(low, Some(Iv::single(index)))
-    }
-
     /// The elements of an interval of rows and one of columns.
     pub fn over(
         low: i64,
@@ -44,22 +37,6 @@ impl Access {
         ensures { result ≡ Grid low left width count row column }
     {
         Access::Grid(low, left, width, count, row, column)
-    }
-
-    /// The element of the one row and column.
-    pub fn cell(low: i64, left: i64, width: usize, count: usize, row: i64, column: i64) -> Access
-        requires row { IsTrue (is_within row) }
-        requires column { IsTrue (is_within column) }
-        ensures { result ≡ Grid low left width count (Some (point row)) (Some (point column)) }
-    {
-        Access::Grid(
-            low,
-            left,
-            width,
-            count,
-            Some(Iv::single(row)),
-            Some(Iv::single(column)),
-        )
     }
 }
 
@@ -93,4 +70,41 @@ fn within(range: Iv, index: i128) -> bool
     ensures { result ≡ has range index }
 {
     range.lo() as i128 <= index && index <= range.hi() as i128
+}
+
+/// The one place below the count whose index it is, where the first place has the lowest index.
+pub fn line_place(low: i64, index: i64, count: usize) -> Option<usize>
+    ensures { FindsPlace (is_place low (Some index)) count result }
+{
+    let place = difference(index, low);
+    if 0 <= place && place < count as i128 {
+        Some(place as usize)
+    } else {
+        None
+    }
+}
+
+fn difference(x: i64, y: i64) -> i128
+    ensures { result ≡ x -ℤ y }
+{
+    x as i128 - y as i128
+}
+
+/// The one place below the count whose row and column the indices are, in whole rows of the width.
+pub fn grid_place(
+    low: i64,
+    left: i64,
+    width: usize,
+    count: usize,
+    row: i64,
+    column: i64,
+) -> Option<usize>
+    ensures { FindsPlace (is_place2 low left width count (Some row) (Some column)) count result }
+{
+    if width == 0 {
+        return None;
+    }
+    let row_place = line_place(low, row, count / width)?;
+    let column_place = line_place(left, column, width)?;
+    Some(row_place * width + column_place)
 }

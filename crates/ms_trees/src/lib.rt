@@ -6,7 +6,7 @@
 //!
 //! The definitions stand here for every crate above. `specs/Value` says what a tree means on an assignment: a
 //! number or undefined, or a truth value, by relational semantics. `specs/Enclosure` says what it may mean on a box, by
-//! interval reasoning, `specs/Fit` on which boxes a tree may be asked, and `specs/Size` how large a tree is and how
+//! interval reasoning, `specs/WellFormed` on which boxes a tree may be asked, and `specs/Size` how large a tree is and how
 //! deep its nodes stand one in another.
 //!
 //! [`holds`] and [`value_at`] answer the value of a tree on an assignment on which it may be asked, exactly, and take
@@ -23,7 +23,7 @@
 //! an index takes.
 //!
 //! A copy equals its source, and want of memory is its only error. [`size`] and [`nesting`] are exact up to
-//! 2^64 - 1, and take no memory. Nothing is promised of a tree's sorts or variables: that is for `specs/Fit` to ask.
+//! 2^64 - 1, and take no memory. Nothing is promised of a tree's sorts or variables: that is for `specs/WellFormed` to ask.
 //! Copies, counts, walks and the drop of a tree recurse, so the caller bounds the nesting.
 #![tactic(auto)]
 
@@ -39,7 +39,7 @@ mod numbers;
 mod table;
 mod tree;
 
-pub use access::{Access, reaches};
+pub use access::{Access, grid_place, line_place, reaches};
 pub use branching::{Branching, Order, ValueChoice};
 pub use copies::copy_trees;
 pub use extreme::Extreme;

@@ -2,14 +2,14 @@ ghost use Rattle.std.specs.Prelude.{◌≡◌, ◌<◌, IsTrue, IfSome, Some, po
 ghost use Rattle.std.specs.List.{list_any};
 ghost use Rattle.ms_num.specs.Numbers.{add_at};
 ghost use Rattle.ms_num.specs.Span.{IsWithin, point as single};
-ghost use Rattle.ms_trees.specs.Value.{value, folded, extreme, selected, counted, all_true, any_true, first_differs, are_distinct, is_row};
+ghost use Rattle.ms_trees.specs.Value.{value, folded, extreme, counted, all_true, any_true, first_differs, are_distinct, is_row};
 ghost use Rattle.ms_trees.specs.Enclosure.{enclosure, points};
 ghost use Rattle.ms_trees.specs.Kept.{KeepsNumbers, part};
-ghost use Rattle.ms_trees.specs.Access.{reaches as reached_by};
+ghost use Rattle.ms_trees.specs.Access.{number_of};
 ghost use Rattle.ms_trees.specs.Extreme.{extreme_at as operation_of};
 ghost use Rattle.ms_trees.specs.WellFormed.{is_well_formed, are_numbers, are_truths, sums_fit, checked};
 
-use crate::access::{Access, reaches};
+use crate::access::{grid_place, line_place};
 use crate::extreme::Extreme;
 use crate::kept::KEPT;
 use crate::numbers::{
@@ -61,7 +61,7 @@ pub fn value_at(g: &Ground, point: &[i64]) -> Option<i64>
         Ground::Greatest(parts) => extreme_at(Extreme::Greatest, parts.as_slice(), point),
         Ground::ToInt(a) => Some(if holds(a.get(), point) { 1 } else { 0 }),
         Ground::Elem(low, parts, index) => match value_at(index.get(), point) {
-            Some(z) => { selected_at(parts.as_slice(), &Access::line(*low, z), point) },
+            Some(z) => selected_at(parts.as_slice(), line_place(*low, z, parts.len()), point),
             None => None,
         },
         Ground::Elem2(low, left, width, parts, row, column) => match pair(
@@ -69,8 +69,8 @@ pub fn value_at(g: &Ground, point: &[i64]) -> Option<i64>
             value_at(column.get(), point),
         ) {
             Some((y, z)) => {
-                let access = Access::cell(*low, *left, *width, parts.len(), y, z);
-                selected_at(parts.as_slice(), &access, point)
+                let place = grid_place(*low, *left, *width as usize, parts.len(), y, z);
+                selected_at(parts.as_slice(), place, point)
             }
             None => None,
         },
@@ -168,17 +168,17 @@ fn extreme_at(which: Extreme, parts: &[Ground], point: &[i64]) -> Option<i64>
     best
 }
 
+// The number of the part at the place, if there is a place.
 #[cycle(meaning)]
-fn selected_at(parts: &[Ground], access: &Access, point: &[i64]) -> Option<i64>
-    requires { IsTrue (are_numbers (map (checked (points point.now)) parts.now)) }
-    ensures { result ≡ selected (reached_by access.now) 0 (map (value point.now) parts.now) }
+fn selected_at(parts: &[Ground], place: Option<usize>, point: &[i64]) -> Option<i64>
+    requires fit { IsTrue (are_numbers (map (checked (points point.now)) parts.now)) }
+    requires place { IfSome place (λ p. p < length parts.now) }
+    ensures { result ≡ number_of (map (value point.now) parts.now) place }
 {
-    for place in 0..parts.len() {
-        if reaches(access, place) {
-            return value_at(&parts[place], point);
-        }
+    match place {
+        Some(place) => value_at(&parts[place], point),
+        None => None,
     }
-    None
 }
 
 #[cycle(meaning)]

@@ -1,6 +1,5 @@
 ghost use Rattle.std.specs.Prelude.{◌≡◌, ◌-◌, ◌^◌, min, IfOk, length, sum_by};
 
-use sqlite_items::Items;
 use std::alloc::{AllocError, Global};
 use std::marker::Model;
 
@@ -53,7 +52,7 @@ impl Row {
 /// The rows of a table. Contracts see the list of the rows.
 #[derive(Debug, Drop)]
 pub struct Rows {
-    rows: Items<Row>,
+    rows: Vec<Row>,
 }
 
 impl Model for Rows {
@@ -64,7 +63,7 @@ impl Model for Rows {
 
     ghost coded = { coded_list (coded_list coded_ℤ) };
 
-    ghost view = { λ t. t.rows };
+    ghost view = { λ t. t.rows.items };
 }
 
 impl Rows {
@@ -72,9 +71,13 @@ impl Rows {
     pub fn from_vec(rows: Vec<Row>) -> Rows
         ensures { result ≡ rows.items }
     {
-        Rows {
-            rows: Items::from_vec(rows),
-        }
+        Rows { rows }
+    }
+
+    pub fn into_vec(self) -> Vec<Row>
+        ensures { result.items ≡ self }
+    {
+        self.rows
     }
 
     pub fn as_slice(&self) -> &[Row]
@@ -86,8 +89,8 @@ impl Rows {
     pub fn copy(&self, alloc: Global) -> Result<Rows, AllocError>
         ensures { IfOk result (λ copied. copied ≡ self.now) }
     {
-        let mut rows = Items::new(alloc);
-        for row in self.rows.as_slice() {
+        let mut rows = Vec::new(alloc);
+        for row in &self.rows {
             rows.push(row.copy(alloc)?)?;
         }
         Ok(Rows { rows })
@@ -98,7 +101,7 @@ impl Rows {
         ensures { result ≡ min (sum_by length self.now) (2 ^ 64 - 1) }
     {
         let mut total = 0u64;
-        for row in self.rows.as_slice() {
+        for row in &self.rows {
             total = total.saturating_add(row.as_slice().len() as u64);
         }
         total

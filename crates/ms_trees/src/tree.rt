@@ -34,7 +34,7 @@ pub enum Ground {
     Elem(i64, Items<Ground>, Boxed<Ground>),
     /// Lowest index of the rows and of the columns, width, elements row by row, and the two indices: the element of
     /// that row and column alone, undefined where there is none. Elements behind the last whole row have no index.
-    Elem2(i64, i64, usize, Items<Ground>, Boxed<Ground>, Boxed<Ground>),
+    Elem2(i64, i64, u32, Items<Ground>, Boxed<Ground>, Boxed<Ground>),
     /// How many of the list are the second number.
     Count(Items<Ground>, Boxed<Ground>),
     /// Condition, `then` and `else`: the taken branch alone.

@@ -52,10 +52,10 @@ pub enum Posted {
     NotTwo,
 }
 
-pub fn posted_tree(alloc: Global, with_constraint: &Posted) -> Result<Ground, AllocError>
+pub fn posted_tree(alloc: Global, posted: &Posted) -> Result<Ground, AllocError>
     ensures { IfOk result (IsTruth line) }
 {
-    match with_constraint {
+    match posted {
         Posted::IsThree => equal(alloc, Ground::Var(0), Ground::Num(3)),
         Posted::AboveTwo => less(alloc, Ground::Num(2), Ground::Var(0)),
         Posted::NotTwo => unequal(alloc, Ground::Var(0), Ground::Num(2)),

@@ -1,12 +1,12 @@
 use Rattle.std.proofs.Common.{◌≡◌, set, rules, ap, ◌∙◌, get_or}
-use Rattle.ms_session.proofs.RangeBoxes.{read_open, halves_from}
+use Rattle.ms_session.proofs.RangeBoxes.{read_unfixed, halves_from}
 use Rattle.ms_session.proofs.plain_node.halves.Goals as goal
 
-pub values_tried-requires-clause-open : goal.values_tried-requires-clause-open
-values_tried-requires-clause-open c = read_open c.args.sets c.args.variable c.index-as_slice-variable.result c.requires.within (c.index-as_slice-variable.is ∙ ap (λ q. get_or q c.args.variable c.index-as_slice-variable.result) c.as_slice.ensures) c.requires.proper c.requires.open
+pub values_tried-requires-clause-unfixed : goal.values_tried-requires-clause-unfixed
+values_tried-requires-clause-unfixed c = read_unfixed c.args.sets c.args.variable c.index-as_slice-variable.result c.requires.within (c.index-as_slice-variable.is ∙ ap (λ q. get_or q c.args.variable c.index-as_slice-variable.result) c.as_slice.ensures) c.requires.proper c.requires.unfixed
 
-pub values_left-requires-clause-open : goal.values_left-requires-clause-open
-values_left-requires-clause-open c = read_open c.args.sets c.args.variable c.index-as_slice-variable-2.result c.requires.within (c.index-as_slice-variable-2.is ∙ ap (λ q. get_or q c.args.variable c.index-as_slice-variable-2.result) c.as_slice-2.ensures) c.requires.proper c.requires.open
+pub values_left-requires-clause-unfixed : goal.values_left-requires-clause-unfixed
+values_left-requires-clause-unfixed c = read_unfixed c.args.sets c.args.variable c.index-as_slice-variable-2.result c.requires.within (c.index-as_slice-variable-2.is ∙ ap (λ q. get_or q c.args.variable c.index-as_slice-variable-2.result) c.as_slice-2.ensures) c.requires.proper c.requires.unfixed
 
 pub returns : goal.returns
 returns c =

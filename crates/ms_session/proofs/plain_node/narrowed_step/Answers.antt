@@ -13,8 +13,8 @@ only_answer-requires-clause-single c =
     let none : pick c.args.branching.now (box_of c.args.sets) ≡ None = ap (λ q. pick c.args.branching.now (box_of q)) (sym c.as_slice.ensures) ∙ sym c.pick.ensures ∙ c.in-None.is in
     rw c.as_slice-in-None.ensures (closed_size c.args.branching.now (box_of c.args.sets) c.requires.proper none)
 
-pub halves-requires-clause-open : goal.halves-requires-clause-open
-halves-requires-clause-open c =
+pub halves-requires-clause-unfixed : goal.halves-requires-clause-unfixed
+halves-requires-clause-unfixed c =
     let some : pick c.args.branching.now (box_of c.args.sets) ≡ Some (c.in-Some.variable, c.in-Some.choice) = cc in
     picked_is_open c.args.branching.now (box_of c.args.sets) c.in-Some.variable c.in-Some.choice some
 

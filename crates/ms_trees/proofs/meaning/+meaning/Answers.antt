@@ -6,14 +6,14 @@ use Rattle.ms_num.specs.Numbers.{int_eq}
 use Rattle.std.proofs.Math.ListN.{length-map, length-set}
 use Rattle.ms_num.specs.Span.{point}
 use Rattle.std.specs.List.{list_any, list_all}
-use Rattle.ms_trees.specs.Value.{Meaning, value, selected, is_place, compare, int_ne, how_many, all_defined, are_distinct, is_row}
+use Rattle.ms_trees.specs.Value.{Meaning, value, selected, is_place, is_place2, compare, int_ne, how_many, all_defined, are_distinct, is_row}
 use Rattle.ms_trees.specs.Enclosure.{points}
 use Rattle.ms_trees.specs.Extreme.{extreme_at}
-use Rattle.ms_trees.specs.Access.{reaches}
 use Rattle.ms_trees.specs.declared.tree.Ground.TheFolds.{the_lemmas}
 use Rattle.ms_trees.proofs.Fits.{fit-Abs, fit-Add, fit-AllDiff, fit-And, fit-BVar, fit-Count, fit-Div, fit-Elem, fit-Elem2, fit-Eq, fit-Greatest, fit-Iff, fit-Imp, fit-In, fit-IteB, fit-IteI, fit-Le, fit-Least, fit-Lt, fit-Mod, fit-Mul, fit-Ne, fit-Neg, fit-Not, fit-Or, fit-Sub, fit-Sum, fit-Table, fit-ToInt, fit-Var, fit-Xor, fit-sums, within-Add, within-Sub, within-Mul, drop_here, sums_on, sum_none, holds_on}
-use Rattle.ms_trees.proofs.Walks.{within_test, number_within, first_of_pair, onward_one, onward_none, onward_number, numbers_on, counted_one, not_counted, all_counted, unselected, unselected2, elem_value, elem2_value, second_of_pair, next_place, at_most_one, count_within, count_fits}
+use Rattle.ms_trees.proofs.Walks.{number_within, first_of_pair, onward_one, onward_none, onward_number, numbers_on, counted_one, not_counted, all_counted, unselected, unselected2, elem_value, elem2_value, at_most_one, count_within, count_fits}
 use Rattle.ms_trees.proofs.Bools.{ap2}
+use Rattle.ms_trees.proofs.Found.{found_selected, found_below, number_part, part_well_formed}
 use Rattle.ms_trees.proofs.Distinct.{distinct_on, first_part, pass_on}
 use Rattle.ms_trees.specs.Kept.{part}
 use Rattle.ms_trees.proofs.Keeping.{part_here, part_read, kept_next}
@@ -72,7 +72,10 @@ pub value_at-value_at-requires-in-Elem : goal.value_at-value_at-requires-in-Elem
 value_at-value_at-requires-in-Elem t c = (search (rules, the_lemmas), rw c.get-in-Elem.ensures ((fit-Elem _ _ _ _ (rw c.in-Elem.is at c.requires)).beside.fit))
 
 pub value_at-selected_at-requires : goal.value_at-selected_at-requires
-value_at-selected_at-requires t c = (search (rules, the_lemmas), rw c.as_slice-in-Some-value_at-3.ensures ((fit-Elem _ _ _ _ (rw c.in-Elem.is at c.requires)).list))
+value_at-selected_at-requires t c =
+    let fit = (fit-Elem _ _ _ _ (rw c.in-Elem.is at c.requires)).list in
+    let below = rw c.len.ensures at (found_below _ c.len.result c.line_place.result c.line_place.ensures) in
+    (search (rules, the_lemmas), (rw c.as_slice-in-Some-value_at-3.ensures fit, rw c.as_slice-in-Some-value_at-3.ensures below))
 
 pub value_at-value_at-requires-in-Elem2 : goal.value_at-value_at-requires-in-Elem2
 value_at-value_at-requires-in-Elem2 t c = (search (rules, the_lemmas), rw c.get-in-Elem2.ensures ((fit-Elem2 _ _ _ _ _ _ _ (rw c.in-Elem2.is at c.requires)).first.fit))
@@ -81,7 +84,10 @@ pub value_at-value_at-requires-in-Elem2-2 : goal.value_at-value_at-requires-in-E
 value_at-value_at-requires-in-Elem2-2 t c = (search (rules, the_lemmas), rw c.get-in-Elem2-2.ensures ((fit-Elem2 _ _ _ _ _ _ _ (rw c.in-Elem2.is at c.requires)).second.fit))
 
 pub value_at-selected_at-requires-in-Some-pair-5 : goal.value_at-selected_at-requires-in-Some-pair-5
-value_at-selected_at-requires-in-Some-pair-5 t c = (search (rules, the_lemmas), rw c.as_slice-in-Some-pair-5.ensures ((fit-Elem2 _ _ _ _ _ _ _ (rw c.in-Elem2.is at c.requires)).list))
+value_at-selected_at-requires-in-Some-pair-5 t c =
+    let fit = (fit-Elem2 _ _ _ _ _ _ _ (rw c.in-Elem2.is at c.requires)).list in
+    let below = rw c.len-in-Some-pair-5.ensures at (found_below _ c.len-in-Some-pair-5.result c.grid_place-place.result c.grid_place-place.ensures) in
+    (search (rules, the_lemmas), (rw c.as_slice-in-Some-pair-5.ensures fit, rw c.as_slice-in-Some-pair-5.ensures below))
 
 pub value_at-value_at-requires-in-Count : goal.value_at-value_at-requires-in-Count
 value_at-value_at-requires-in-Count t c = (search (rules, the_lemmas), rw c.get-in-Count.ensures ((fit-Count _ _ _ (rw c.in-Count.is at c.requires)).beside.fit))
@@ -219,13 +225,6 @@ value_at-magnitude-requires t c =
     rw (to_z-of_z w64 s.x x)
     (number_within c.args.point.now c.in-Abs.a (fit-Abs _ _ (rw c.in-Abs.is at c.requires)) s.x (rw c.get-in-Abs.ensures at s.ensures))
 
-pub value_at-line-requires : goal.value_at-line-requires
-value_at-line-requires t c =
-    let s = c.in-Some-value_at-3 in
-    let z : SFits w64 s.z = search rules in
-    rw (to_z-of_z w64 s.z z)
-    (within_test s.z (number_within c.args.point.now c.in-Elem.index (fit-Elem _ _ _ _ (rw c.in-Elem.is at c.requires)).beside s.z (rw c.get-in-Elem.ensures at s.ensures)))
-
 pub value_at-returns-in-None-value_at-3 : goal.value_at-returns-in-None-value_at-3
 value_at-returns-in-None-value_at-3 t c =
     let s = c.in-None-value_at-3 in
@@ -237,30 +236,17 @@ value_at-returns-in-None-value_at-3 t c =
 pub value_at-returns-in-Some-value_at-3 : goal.value_at-returns-in-Some-value_at-3
 value_at-returns-in-Some-value_at-3 t c =
     let s = c.in-Some-value_at-3 in
+    let e = c.in-Elem in
     let z : SFits w64 s.z = search rules in
-    let low : SFits w64 c.in-Elem.low = search rules in
-    let access = rw (to_z-of_z w64 c.in-Elem.low low, to_z-of_z w64 s.z z) at c.line.ensures in
+    let low : SFits w64 e.low = search rules in
+    let place = rw (to_z-of_z w64 e.low low, to_z-of_z w64 s.z z, c.len.ensures) at c.line_place.ensures in
     let some = rw c.get-in-Elem.ensures at s.ensures in
-    rw c.in-Elem.is
-    (rw (access, c.as_slice-in-Some-value_at-3.ensures) at c.selected_at.ensures
-    ∙ ap (λ o. selected (is_place c.in-Elem.low o) 0 (map (value c.args.point.now) c.in-Elem.parts)) some
-    ∙ elem_value c.args.point.now c.in-Elem.low c.in-Elem.parts c.in-Elem.index)
-
-pub value_at-cell-access-requires-clause-row : goal.value_at-cell-access-requires-clause-row
-value_at-cell-access-requires-clause-row t c =
-    let s = c.in-Some-pair-5 in
-    let y : SFits w64 s.y = search rules in
-    let both = rw (c.value_at-in-Elem2.ensures, c.get-in-Elem2.ensures, c.value_at-in-Elem2-2.ensures, c.get-in-Elem2-2.ensures) at s.ensures in
-    rw (to_z-of_z w64 s.y y)
-    (within_test s.y (number_within c.args.point.now c.in-Elem2.row (fit-Elem2 _ _ _ _ _ _ _ (rw c.in-Elem2.is at c.requires)).first s.y (first_of_pair _ _ s.y s.z both)))
-
-pub value_at-cell-access-requires-clause-column : goal.value_at-cell-access-requires-clause-column
-value_at-cell-access-requires-clause-column t c =
-    let s = c.in-Some-pair-5 in
-    let z : SFits w64 s.z = search rules in
-    let both = rw (c.value_at-in-Elem2.ensures, c.get-in-Elem2.ensures, c.value_at-in-Elem2-2.ensures, c.get-in-Elem2-2.ensures) at s.ensures in
-    rw (to_z-of_z w64 s.z z)
-    (within_test s.z (number_within c.args.point.now c.in-Elem2.column (fit-Elem2 _ _ _ _ _ _ _ (rw c.in-Elem2.is at c.requires)).second s.z (second_of_pair _ _ s.y s.z both)))
+    let ms = map (value c.args.point.now) e.parts in
+    rw e.is
+    (rw c.as_slice-in-Some-value_at-3.ensures at c.selected_at.ensures
+    ∙ found_selected (is_place e.low (Some s.z)) (length e.parts) c.line_place.result ms (length-map e.parts (value c.args.point.now)) place
+    ∙ ap (λ o. selected (is_place e.low o) 0 ms) some
+    ∙ elem_value c.args.point.now e.low e.parts e.index)
 
 pub value_at-returns-in-Some-pair-5 : goal.value_at-returns-in-Some-pair-5
 value_at-returns-in-Some-pair-5 t c =
@@ -270,10 +256,12 @@ value_at-returns-in-Some-pair-5 t c =
     let z : SFits w64 s.z = search rules in
     let low : SFits w64 e.low = search rules in
     let left : SFits w64 e.left = search rules in
-    let access = rw (to_z-of_z w64 e.low low, to_z-of_z w64 e.left left, to_z-of_z w64 s.y y, to_z-of_z w64 s.z z, c.len.ensures) at c.cell-access.ensures in
+    let place = rw (to_z-of_z w64 e.low low, to_z-of_z w64 e.left left, to_z-of_z w64 s.y y, to_z-of_z w64 s.z z, c.len-in-Some-pair-5.ensures) at c.grid_place-place.ensures in
     let both = rw (c.value_at-in-Elem2.ensures, c.get-in-Elem2.ensures, c.value_at-in-Elem2-2.ensures, c.get-in-Elem2-2.ensures) at s.ensures in
+    let ms = map (value c.args.point.now) e.parts in
     rw e.is
-    (rw (access, c.as_slice-in-Some-pair-5.ensures) at c.selected_at-in-Some-pair-5.ensures
+    (rw c.as_slice-in-Some-pair-5.ensures at c.selected_at-in-Some-pair-5.ensures
+    ∙ found_selected (is_place2 e.low e.left e.width (length e.parts) (Some s.y) (Some s.z)) (length e.parts) c.grid_place-place.result ms (length-map e.parts (value c.args.point.now)) place
     ∙ elem2_value c.args.point.now e.low e.left e.width e.parts e.row e.column (Some s.y) (Some s.z) both)
 
 pub value_at-returns-in-None-pair-5 : goal.value_at-returns-in-None-pair-5
@@ -337,11 +325,20 @@ extreme_at-loop-part-preserved t c =
           ∙ sym (on.onward (extreme_at c.args.which) l.best) ∙ l.invariant.rest);
     }
 
-pub selected_at-loop-place-preserved : goal.selected_at-loop-place-preserved
-selected_at-loop-place-preserved t c =
-    let l = c.loop-place in
-    let n = next_place c.args.point.now c.args.parts.now (reaches c.args.access.now) l.place c.loop-place-test.true l.invariant.fit (sym c.reaches.ensures ∙ c.if-reaches.false) in
-    record { fit = n.fit; rest = n.rest ∙ l.invariant.rest }
+pub selected_at-value_at-requires : goal.selected_at-value_at-requires
+selected_at-value_at-requires t c =
+    let below : c.in-Some.place < length c.args.parts.now = rw c.in-Some.is at c.requires.place in
+    let fit = part_well_formed (points c.args.point.now) c.args.parts.now c.in-Some.place below c.requires.fit in
+    (search (rules, the_lemmas), rw (part_read c.args.parts.now c.in-Some.place c.index-parts-place.result below c.index-parts-place.is) fit)
+
+pub selected_at-returns-in-Some : goal.selected_at-returns-in-Some
+selected_at-returns-in-Some t c =
+    let p = c.in-Some.place in
+    let below : p < length c.args.parts.now = rw c.in-Some.is at c.requires.place in
+    rw c.in-Some.is
+    (c.value_at.ensures
+    ∙ ap (λ x. (value c.args.point.now x).number) (part_read c.args.parts.now p c.index-parts-place.result below c.index-parts-place.is)
+    ∙ number_part c.args.point.now c.args.parts.now p below)
 
 pub count_at-loop-part-preserved : goal.count_at-loop-part-preserved
 count_at-loop-part-preserved t c =

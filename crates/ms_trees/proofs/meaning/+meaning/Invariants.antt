@@ -2,10 +2,9 @@ use Rattle.std.proofs.Common.{◌≡◌, ℕ, ◌+◌, ◌<◌, ◌≤◌, true,
 use Rattle.ms_num.specs.Numbers.{add_at, int_eq}
 use Rattle.ms_num.specs.Span.{point}
 use Rattle.std.specs.List.{list_any, list_all}
-use Rattle.ms_trees.specs.Value.{Meaning, value, folded, extreme, selected, all_defined, how_many, compare, int_ne, all_true, any_true, first_differs, are_distinct, is_row}
+use Rattle.ms_trees.specs.Value.{Meaning, value, folded, extreme, all_defined, how_many, compare, int_ne, all_true, any_true, first_differs, are_distinct, is_row}
 use Rattle.ms_trees.specs.Enclosure.{enclosure, points}
 use Rattle.ms_trees.specs.Kept.{part}
-use Rattle.ms_trees.specs.Access.{reaches}
 use Rattle.ms_trees.specs.Extreme.{extreme_at}
 use Rattle.ms_trees.proofs.Onward.{onward}
 use Rattle.ms_trees.specs.WellFormed.{are_numbers, are_truths, sums_fit, checked}
@@ -22,12 +21,6 @@ abbrev pub invariant-extreme_at-loop-part : goal.invariant-extreme_at-loop-part
 invariant-extreme_at-loop-part l = record {
   fit : are_numbers (map (checked (points l.point)) (drop l.part-index l.parts)) ≡ true;
   rest : onward (extreme_at l.which) l.best (map (value l.point) (drop l.part-index l.parts)) ≡ extreme (extreme_at l.which) (map (value l.point) l.parts);
-}
-
-abbrev pub invariant-selected_at-loop-place : goal.invariant-selected_at-loop-place
-invariant-selected_at-loop-place l = record {
-  fit : are_numbers (map (checked (points l.point)) (drop l.place l.parts)) ≡ true;
-  rest : selected (reaches l.access) l.place (map (value l.point) (drop l.place l.parts)) ≡ selected (reaches l.access) 0 (map (value l.point) l.parts);
 }
 
 abbrev pub invariant-count_at-loop-part : goal.invariant-count_at-loop-part
