@@ -6,7 +6,7 @@
 #![tactic(auto)]
 
 use ms_evaluator::Evaluator;
-use ms_ground::{Ground, Hull, is_well_formed};
+use ms_ground::{Ground, Hull};
 use ms_num::Iv;
 use sqlite_items::{Boxed, Items};
 use std::alloc::{AllocError, Global};
@@ -47,7 +47,7 @@ fn queens(alloc: Global, count: u32) -> Result<Ground, AllocError> {
 // Numbers far apart, and a last part.
 fn list(alloc: Global, last: Ground) -> Result<Ground, AllocError> {
     let mut parts = Items::new(alloc);
-    for number in 1..66i64 {
+    for number in 1..70i64 {
         parts.push(Ground::Num(number.wrapping_mul(400)))?;
     }
     parts.push(last)?;
@@ -99,7 +99,7 @@ fn number_of(h: Hull) -> u64 {
 fn sum(alloc: Global, g: &Ground, sets: &[Iv], times: u32) -> Result<u64, AllocError> {
     let mut evaluator = Evaluator::new(alloc);
     let mut sum = 0u64;
-    if !is_well_formed(g, sets) {
+    if !evaluator.is_well_formed(g, sets)? {
         return Ok(sum);
     }
     for _ in 0..times {

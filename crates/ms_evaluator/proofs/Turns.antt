@@ -1,15 +1,16 @@
 -- Walks over lists of enclosures.
-use Rattle.std.proofs.Common.{◌≡◌, ℕ, ◌+◌, ◌<◌, ◌≤◌, List, [], ◌∷◌, length, drop, get_or, Some, None, Bool, true, false, not, ◌&&◌, ◌||◌, refl, sym, ap, ◌∙◌, arith, suc, zero, add-one}
-use Rattle.std.specs.Prelude.{ℤ, pos, if◌then◌else◌}
+use Rattle.std.proofs.Common.{◌≡◌, ℕ, ◌+◌, ◌<◌, ◌≤◌, List, [], ◌∷◌, length, drop, get_or, Option, Some, None, Bool, true, false, not, ◌&&◌, ◌||◌, refl, sym, ap, ◌∙◌, arith, suc, zero, add-one}
+use Rattle.std.specs.Prelude.{ℤ, pos, int_le, if◌then◌else◌}
+use Rattle.std.proofs.lemmas.Int.{ints}
+use Rattle.ms_num.proofs.SharedSpans.{of_le}
+use Rattle.ms_num.specs.Numbers.{int_eq}
 use Rattle.std.specs.List.{list_any, list_all}
 use Rattle.std.proofs.lemmas.Bool.{false≢true}
-use Rattle.ms_num.specs.Span.{Span, has, join_some, if_narrow, is_narrow}
+use Rattle.ms_num.specs.Span.{Span, has, join_some}
 use Rattle.ms_trees.specs.Value.{how_many}
 use Rattle.ms_trees.specs.Enclosure as r
-use Rattle.ms_trees.specs.WellFormed.{fits}
-use Rattle.ms_ground.specs.Known.{known, within_limits}
 use Rattle.ms_trees.specs.declared.tree.Enclosure.{Enclosure}
-use Rattle.ms_trees.proofs.Bools.{and_left, and_right, or_left, or_right, is_false}
+use Rattle.ms_trees.proofs.Bools.{and_left, and_right, and_true, or_left, or_right, is_false, eq_of}
 use Rattle.ms_trees.proofs.Fits.{drop_here, read_default}
 use Rattle.ms_evaluator.specs.Claims.{part_at}
 
@@ -23,29 +24,6 @@ item_here ps k x b e = drop_here ps k x b e
 
 pub read : (ps : List Enclosure) (k : ℕ) (x : Enclosure) → k < length ps → x ≡ get_or ps k x → x ≡ part_at ps k
 read ps k x b e = e ∙ read_default ps k x (r.numeric_enclosure None false) b
-
--- an interval that does not leave the limits is the span itself
-pub narrow_is : (s t : Span) → Some s ≡ if_narrow t → Some s ≡ Some t
-narrow_is s t e = at (is_narrow t) e
-  where
-    at : (b : Bool) → Some s ≡ (if b then Some t else None) → Some s ≡ Some t
-    at true h = h
-    at false h = absurd (cc)
-
--- what is known is what it is
-pub known_is : (t : Bool) (e q : Enclosure) → Some q ≡ known t e → q ≡ e
-known_is t e q h = at t h
-  where
-    same : Some q ≡ Some e → q ≡ e
-    same k = cc
-
-    at : (b : Bool) → Some q ≡ known b e → q ≡ e
-    at true k = same k
-    at false k = absurd (cc)
-
--- what stays within the limits is what the operation gives
-pub within_is : (e q : Enclosure) → Some q ≡ within_limits e → q ≡ e
-within_is e q h = known_is (fits e.interval) e q h
 
 pub any_at : (f : Enclosure → Bool) (ps : List Enclosure) (k : ℕ) → k < length ps → f (part_at ps k) ≡ true → list_any f ps ≡ true
 any_at f [] k b e = absurd (omega (arith, b))
@@ -113,6 +91,27 @@ count_turn p ps rest x n m one e o h = at (p x) o (ap (λ zs. n + how_many p zs)
     at : (b : Bool) → one ≡ (if b then 1 else 0) → n + (if b then suc (how_many p rest) else how_many p rest) ≡ m → (n + one) + how_many p rest ≡ m
     at true o h = omega (arith, o, h)
     at false o h = omega (arith, o, h)
+
+-- the same single number lies in both
+meets_of_same : (o p : Option Span) → r.compare_intervals r.same_single o p ≡ true → r.compare_intervals r.meets o p ≡ true
+meets_of_same None p h = h
+meets_of_same (Some s) None h = h
+meets_of_same (Some s) (Some t) h =
+    let a = eq_of s.lo s.hi (and_left (int_eq s.lo s.hi) (int_eq s.lo t.lo) (and_left (int_eq s.lo s.hi && int_eq s.lo t.lo) (int_eq t.lo t.hi) h)) in
+    let c = eq_of s.lo t.lo (and_right (int_eq s.lo s.hi) (int_eq s.lo t.lo) (and_left (int_eq s.lo s.hi && int_eq s.lo t.lo) (int_eq t.lo t.hi) h)) in
+    let d = eq_of t.lo t.hi (and_right (int_eq s.lo s.hi && int_eq s.lo t.lo) (int_eq t.lo t.hi) h) in
+    and_true (int_le s.lo t.hi) (int_le t.lo s.hi) (of_le s.lo t.hi (omega (arith, ints, a, c, d))) (of_le t.lo s.hi (omega (arith, ints, a, c, d)))
+
+-- what is certain is possible
+pub certain_possible : (o : Option Span) (ps : List Enclosure) → how_many (λ (q : Enclosure). r.compare_intervals r.same_single q.interval o) ps ≤ how_many (λ (q : Enclosure). r.compare_intervals r.meets q.interval o) ps
+certain_possible o [] = omega arith
+certain_possible o (p ∷ ps) = at (r.compare_intervals r.same_single p.interval o) (r.compare_intervals r.meets p.interval o) (meets_of_same p.interval o) _ _ (certain_possible o ps)
+  where
+    at : (a b : Bool) → (a ≡ true → b ≡ true) → (m n : ℕ) → m ≤ n → (if a then suc m else m) ≤ (if b then suc n else n)
+    at true true f m n h = omega (arith, h)
+    at true false f m n h = absurd (false≢true (f refl))
+    at false true f m n h = omega (arith, h)
+    at false false f m n h = h
 
 pub one_at_most : (b : Bool) (n : ℕ) → n ≡ (if b then 1 else 0) → n ≤ 1
 one_at_most true n e = omega (arith, e)

@@ -1,2 +1,4 @@
 pub mod Claims
+pub mod Findings
+pub mod Lists
 pub mod Pushed

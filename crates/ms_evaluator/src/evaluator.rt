@@ -1,20 +1,19 @@
-ghost use Rattle.std.specs.Prelude.{◌≡◌, map, IsTrue, IfOk, OnOk};
-ghost use Rattle.ms_trees.specs.Enclosure.{enclosure, hull_of};
+ghost use Rattle.std.specs.Prelude.{◌≡◌, ◌≤◌, map, length, drop, IsTrue, IfOk, OnOk, true};
+ghost use Rattle.ms_trees.specs.Enclosure.{enclosure, hull_of, distinct as distinct_of};
 ghost use Rattle.ms_trees.specs.WellFormed.{is_well_formed as is_well_formed_of};
-ghost use Rattle.ms_evaluator.specs.Pushed.{IsPushed};
+ghost use Rattle.ms_ground.specs.Known.{known};
+ghost use Rattle.ms_evaluator.specs.Findings.{findings, all_numbers, all_truths};
+ghost use Rattle.ms_evaluator.specs.Pushed.{ArePushed};
 
 use crate::distinct::Matching;
+use crate::lists;
 use crate::nodes::{
-    all, count, difference, either, element, element_of_grid, extreme, magnitude, negation,
-    number_of, product, quotient, remainder, rowed, single, some, sum, top, total, truth_variable,
-    variable,
+    at_most, bit, denial, difference, either, either_of_truths, equal, equivalence, exclusive,
+    implication, less, magnitude, membership, negation, product, quotient, remainder, sum, unequal,
 };
-use crate::stop::Stop;
-use ms_ground::operations::{
-    at_most, boolean, denial, either_of_truths, equal, equivalence, exclusive, implication, less,
-    membership, numeric, unequal,
-};
-use ms_ground::{as_hull, enclose};
+use ms_ground::as_hull;
+use ms_ground::leaves::{bit_variable, constant, variable};
+use ms_ground::operations::{boolean, numeric};
 use ms_num::Intervals;
 use ms_trees::{Enclosure, Extreme, Ground, Hull};
 use std::alloc::{AllocError, Global};
@@ -34,154 +33,190 @@ impl Evaluator {
         }
     }
 
+    /// What the tree may mean on the box of these intervals, where it is well formed there.
+    pub fn enclose<B: Intervals>(
+        &mut self,
+        g: &Ground,
+        sets: B,
+    ) -> Result<Option<Enclosure>, AllocError>
+        ensures { IfOk result (λ r. r ≡ known (is_well_formed_of (B.spans sets) g.now) (enclosure (B.spans sets) g.now)) }
+    {
+        self.kept.clear();
+        match self.number(g, sets)? {
+            Some(x) => Ok(Some(x)),
+            None => self.truth(g, sets),
+        }
+    }
+
+    /// Whether the tree is well formed on the box of these intervals.
+    pub fn is_well_formed<B: Intervals>(&mut self, g: &Ground, sets: B) -> Result<bool, AllocError>
+        ensures { IfOk result (λ r. r ≡ is_well_formed_of (B.spans sets) g.now) }
+    {
+        let enclosed = self.enclose(g, sets)?;
+        Ok(enclosed.is_some())
+    }
+
     /// What the tree may mean on the box of these intervals.
     pub fn hull<B: Intervals>(&mut self, g: &Ground, sets: B) -> Result<Hull, AllocError>
         requires { IsTrue (is_well_formed_of (B.spans sets) g.now) }
         ensures { IfOk result (λ h. h ≡ hull_of (enclosure (B.spans sets) g.now)) }
     {
-        self.kept.clear();
-        match self.node(g, sets) {
-            Ok(x) => Ok(as_hull(x)),
-            Err(Stop::Memory(error)) => Err(error),
-            Err(Stop::Unfit) => Ok(hull_on(g, sets)),
+        match self.enclose(g, sets)? {
+            Some(x) => Ok(as_hull(x)),
+            None => unreachable!(),
         }
     }
 
-    // What the tree may mean.
-    fn node<B: Intervals>(&mut self, g: &Ground, sets: B) -> Result<Enclosure, Stop>
-        ensures { IfOk result (λ r. r ≡ enclosure (B.spans sets) g.now) }
+    /// Whether numbers may be distinct, and whether they may not, from what each of them may be.
+    pub fn distinct(&mut self, parts: &[Enclosure]) -> Result<Enclosure, AllocError>
+        ensures { IfOk result (λ r. r ≡ distinct_of parts.now) }
     {
-        match self.number(g, sets) {
-            Err(Stop::Unfit) => self.truth(g, sets),
-            other => other,
-        }
+        self.matching.distinct(parts)
     }
 
-    // What an integer tree may mean.
+    // What the tree may mean, where it is a well formed integer tree.
     #[cycle(walk)]
-    fn number<B: Intervals>(&mut self, g: &Ground, sets: B) -> Result<Enclosure, Stop>
-        ensures value { IfOk result (λ r. r ≡ enclosure (B.spans sets) g.now) }
+    fn number<B: Intervals>(&mut self, g: &Ground, sets: B) -> Result<Option<Enclosure>, AllocError>
+        ensures value { IfOk result (λ o. o ≡ (findings (B.spans sets) g.now).number) }
         ensures kept { OnOk result (self.new.kept.items ≡ self.old.kept.items) }
     {
         match g {
-            Ground::Num(n) => single(*n),
-            Ground::Undef => Ok(numeric(None, true)),
-            Ground::Var(v) => variable(*v, sets),
+            Ground::Num(n) => Ok(constant(*n)),
+            Ground::Undef => Ok(Some(numeric(None, true))),
+            Ground::Var(v) => Ok(variable(*v, sets)),
             Ground::Add(a, b) => {
                 let x = self.number(a.get(), sets)?;
                 let y = self.number(b.get(), sets)?;
-                sum(x, y)
+                Ok(sum(x, y))
             }
             Ground::Sub(a, b) => {
                 let x = self.number(a.get(), sets)?;
                 let y = self.number(b.get(), sets)?;
-                difference(x, y)
+                Ok(difference(x, y))
             }
             Ground::Mul(a, b) => {
                 let x = self.number(a.get(), sets)?;
                 let y = self.number(b.get(), sets)?;
-                product(x, y)
+                Ok(product(x, y))
             }
             Ground::Div(a, b) => {
                 let x = self.number(a.get(), sets)?;
                 let y = self.number(b.get(), sets)?;
-                quotient(x, y)
+                Ok(quotient(x, y))
             }
             Ground::Mod(a, b) => {
                 let x = self.number(a.get(), sets)?;
                 let y = self.number(b.get(), sets)?;
-                remainder(x, y)
+                Ok(remainder(x, y))
             }
             Ground::Neg(a) => {
                 let x = self.number(a.get(), sets)?;
-                negation(x)
+                Ok(negation(x))
             }
             Ground::Abs(a) => {
                 let x = self.number(a.get(), sets)?;
-                magnitude(x)
+                Ok(magnitude(x))
             }
             Ground::Sum(parts) => {
-                let base = self.push_numbers(parts.as_slice(), sets)?;
-                let x = total(top(self.kept.as_slice(), base));
+                let Some(base) = self.push_numbers(parts.as_slice(), sets)? else {
+                    return Ok(None);
+                };
+                let x = lists::sum(top(self.kept.as_slice(), base));
                 self.kept.truncate(base);
-                x
+                Ok(x)
             }
             Ground::Least(parts) => {
-                let base = self.push_numbers(parts.as_slice(), sets)?;
-                let x = extreme(Extreme::Least, top(self.kept.as_slice(), base));
+                let Some(base) = self.push_numbers(parts.as_slice(), sets)? else {
+                    return Ok(None);
+                };
+                let x = lists::extreme(Extreme::Least, top(self.kept.as_slice(), base));
                 self.kept.truncate(base);
                 Ok(x)
             }
             Ground::Greatest(parts) => {
-                let base = self.push_numbers(parts.as_slice(), sets)?;
-                let x = extreme(Extreme::Greatest, top(self.kept.as_slice(), base));
+                let Some(base) = self.push_numbers(parts.as_slice(), sets)? else {
+                    return Ok(None);
+                };
+                let x = lists::extreme(Extreme::Greatest, top(self.kept.as_slice(), base));
                 self.kept.truncate(base);
                 Ok(x)
             }
             Ground::ToInt(a) => {
                 let x = self.truth(a.get(), sets)?;
-                number_of(x)
+                Ok(bit(x))
             }
             Ground::Elem(low, parts, index) => {
-                let i = self.number(index.get(), sets)?;
-                let base = self.push_numbers(parts.as_slice(), sets)?;
-                let x = element(top(self.kept.as_slice(), base), *low, i);
+                let Some(i) = self.number(index.get(), sets)? else {
+                    return Ok(None);
+                };
+                let Some(base) = self.push_numbers(parts.as_slice(), sets)? else {
+                    return Ok(None);
+                };
+                let x = lists::element(top(self.kept.as_slice(), base), *low, i);
                 self.kept.truncate(base);
                 Ok(x)
             }
             Ground::Elem2(low, left, width, parts, row, column) => {
-                let i = self.number(row.get(), sets)?;
-                let j = self.number(column.get(), sets)?;
-                let base = self.push_numbers(parts.as_slice(), sets)?;
-                let x = element_of_grid(
-                    top(self.kept.as_slice(), base),
-                    *low,
-                    *left,
-                    *width as usize,
-                    i,
-                    j,
-                );
+                let Some(i) = self.number(row.get(), sets)? else {
+                    return Ok(None);
+                };
+                let Some(j) = self.number(column.get(), sets)? else {
+                    return Ok(None);
+                };
+                let Some(base) = self.push_numbers(parts.as_slice(), sets)? else {
+                    return Ok(None);
+                };
+                let parts = top(self.kept.as_slice(), base);
+                let x = lists::element_of_grid(parts, *low, *left, *width as usize, i, j);
                 self.kept.truncate(base);
                 Ok(x)
             }
             Ground::Count(parts, a) => {
-                let y = self.number(a.get(), sets)?;
-                let base = self.push_numbers(parts.as_slice(), sets)?;
-                let x = count(top(self.kept.as_slice(), base), y);
+                let Some(y) = self.number(a.get(), sets)? else {
+                    return Ok(None);
+                };
+                let Some(base) = self.push_numbers(parts.as_slice(), sets)? else {
+                    return Ok(None);
+                };
+                let x = lists::count(top(self.kept.as_slice(), base), y);
                 self.kept.truncate(base);
-                x
+                Ok(x)
             }
             Ground::IteI(condition, a, b) => {
                 let c = self.truth(condition.get(), sets)?;
                 let x = self.number(a.get(), sets)?;
                 let y = self.number(b.get(), sets)?;
-                either(c, x, y)
+                Ok(either(c, x, y))
             }
-            _ => Err(Stop::Unfit),
+            _ => Ok(None),
         }
     }
 
-    // What a Boolean tree may mean.
+    // What the tree may mean, where it is a well formed Boolean tree.
     #[cycle(walk)]
-    fn truth<B: Intervals>(&mut self, g: &Ground, sets: B) -> Result<Enclosure, Stop>
-        ensures value { IfOk result (λ r. r ≡ enclosure (B.spans sets) g.now) }
+    fn truth<B: Intervals>(&mut self, g: &Ground, sets: B) -> Result<Option<Enclosure>, AllocError>
+        ensures value { IfOk result (λ o. o ≡ (findings (B.spans sets) g.now).truth) }
         ensures kept { OnOk result (self.new.kept.items ≡ self.old.kept.items) }
     {
         match g {
-            Ground::True => Ok(boolean(true, false)),
-            Ground::False => Ok(boolean(false, true)),
-            Ground::BVar(v) => truth_variable(*v, sets),
+            Ground::True => Ok(Some(boolean(true, false))),
+            Ground::False => Ok(Some(boolean(false, true))),
+            Ground::BVar(v) => Ok(bit_variable(*v, sets)),
             Ground::And(parts) => {
-                let base = self.push_truths(parts.as_slice(), sets)?;
-                let x = all(top(self.kept.as_slice(), base));
+                let Some(base) = self.push_truths(parts.as_slice(), sets)? else {
+                    return Ok(None);
+                };
+                let x = lists::all(top(self.kept.as_slice(), base));
                 self.kept.truncate(base);
-                Ok(x)
+                Ok(Some(x))
             }
             Ground::Or(parts) => {
-                let base = self.push_truths(parts.as_slice(), sets)?;
-                let x = some(top(self.kept.as_slice(), base));
+                let Some(base) = self.push_truths(parts.as_slice(), sets)? else {
+                    return Ok(None);
+                };
+                let x = lists::some(top(self.kept.as_slice(), base));
                 self.kept.truncate(base);
-                Ok(x)
+                Ok(Some(x))
             }
             Ground::Not(a) => {
                 let x = self.truth(a.get(), sets)?;
@@ -233,55 +268,71 @@ impl Evaluator {
                 Ok(membership(x, ranges))
             }
             Ground::AllDiff(parts) => {
-                let base = self.push_numbers(parts.as_slice(), sets)?;
+                let Some(base) = self.push_numbers(parts.as_slice(), sets)? else {
+                    return Ok(None);
+                };
                 let x = self.matching.distinct(top(self.kept.as_slice(), base))?;
                 self.kept.truncate(base);
-                Ok(x)
+                Ok(Some(x))
             }
             Ground::Table(parts, rows) => {
-                let base = self.push_numbers(parts.as_slice(), sets)?;
-                let x = rowed(top(self.kept.as_slice(), base), rows.as_slice());
+                let Some(base) = self.push_numbers(parts.as_slice(), sets)? else {
+                    return Ok(None);
+                };
+                let x = lists::rowed(top(self.kept.as_slice(), base), rows.as_slice());
                 self.kept.truncate(base);
-                Ok(x)
+                Ok(Some(x))
             }
-            _ => Err(Stop::Unfit),
+            _ => Ok(None),
         }
     }
 
-    // What the integer parts may mean, on the stack from the place that is returned.
+    // What the parts may mean, on the stack from the place that is returned, where each is a well formed integer tree.
     #[cycle(walk)]
-    fn push_numbers<B: Intervals>(&mut self, parts: &[Ground], sets: B) -> Result<usize, Stop>
-        ensures { IfOk result (λ base. IsPushed self.old.kept.items self.new.kept.items base (map (enclosure (B.spans sets)) parts.now)) }
+    fn push_numbers<B: Intervals>(
+        &mut self,
+        parts: &[Ground],
+        sets: B,
+    ) -> Result<Option<usize>, AllocError>
+        ensures { IfOk result (λ base. ArePushed self.old.kept.items self.new.kept.items base (all_numbers (map (findings (B.spans sets)) parts.now))) }
     {
         let base = self.kept.len();
         for part in parts {
-            let x = self.number(part, sets)?;
+            let Some(x) = self.number(part, sets)? else {
+                self.kept.truncate(base);
+                return Ok(None);
+            };
             self.kept.extend_from_slice(&[x])?;
         }
-        Ok(base)
+        Ok(Some(base))
     }
 
     // The same of Boolean parts.
     #[cycle(walk)]
-    fn push_truths<B: Intervals>(&mut self, parts: &[Ground], sets: B) -> Result<usize, Stop>
-        ensures { IfOk result (λ base. IsPushed self.old.kept.items self.new.kept.items base (map (enclosure (B.spans sets)) parts.now)) }
+    fn push_truths<B: Intervals>(
+        &mut self,
+        parts: &[Ground],
+        sets: B,
+    ) -> Result<Option<usize>, AllocError>
+        ensures { IfOk result (λ base. ArePushed self.old.kept.items self.new.kept.items base (all_truths (map (findings (B.spans sets)) parts.now))) }
     {
         let base = self.kept.len();
         for part in parts {
-            let x = self.truth(part, sets)?;
+            let Some(x) = self.truth(part, sets)? else {
+                self.kept.truncate(base);
+                return Ok(None);
+            };
             self.kept.extend_from_slice(&[x])?;
         }
-        Ok(base)
+        Ok(Some(base))
     }
 }
 
-// By the walk without memory, for a tree that is known to be well formed.
-fn hull_on<B: Intervals>(g: &Ground, sets: B) -> Hull
-    requires { IsTrue (is_well_formed_of (B.spans sets) g.now) }
-    ensures { result ≡ hull_of (enclosure (B.spans sets) g.now) }
+// The parts on the stack from a place on.
+fn top(kept: &[Enclosure], base: usize) -> &[Enclosure]
+    requires { base ≤ length kept.now }
+    ensures { result.now ≡ drop base kept.now }
 {
-    match enclose(g, sets) {
-        Some(x) => as_hull(x),
-        None => unreachable!(),
-    }
+    let (_, parts) = kept.split_at(base);
+    parts
 }

@@ -5,8 +5,8 @@ mod claims;
 mod distinct;
 mod evaluator;
 mod guess;
+pub mod lists;
 mod nodes;
 mod room;
-mod stop;
 
 pub use evaluator::Evaluator;
