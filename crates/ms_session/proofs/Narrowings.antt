@@ -9,7 +9,6 @@ use Rattle.ms_num.proofs.Cuts.{lt_from}
 use Rattle.ms_session.specs.declared.narrowing.Relation.{Relation}
 use Rattle.ms_session.specs.declared.narrowing.Relation.TheVariants.{Equal, AtMost, Less, AtLeast, Greater}
 use Rattle.ms_session.specs.Narrowing.{relates, is_kept, IsTied}
-use Rattle.ms_ground.specs.Known.{known}
 use Rattle.std.proofs.Common.{false}
 use Rattle.std.proofs.Common.{◌≢◌, inl, if◌then◌else◌, Result, Ok, Err}
 use Rattle.std.specs.Prelude.{IfOk, MatchOption}
@@ -138,30 +137,31 @@ record AreRelated (relation : Relation) (m n : Option ℤ) : Type 0 where
   right : n ≡ Some second
   related : relates relation first second ≡ true
 
-bounds_from : (spans : List Span) (t part tree : Ground) (relation : Relation) (o : Option Bound) → ((p : Assignment) → Holds p t → AreRelated relation (value p part).number (value p tree).number) → IfSome o (IsTied spans part relation tree) → IfSome o (Bounds spans t)
-bounds_from spans t part tree relation None h k = tt
-bounds_from spans t part tree relation (Some bound) h k = λ p i holds. let r = h p holds in k p i r.first r.second r.left r.right r.related
+bounds_from : (spans : List Span) (t part tree : Ground) (relation : Relation) (o : Result (Option Bound) AllocError) → ((p : Assignment) → Holds p t → AreRelated relation (value p part).number (value p tree).number) → IfOk o (λ q. IfSome q (IsTied spans part relation tree)) → IfOk o (λ q. IfSome q (Bounds spans t))
+bounds_from spans t part tree relation (Ok None) h k = tt
+bounds_from spans t part tree relation (Err x) h k = tt
+bounds_from spans t part tree relation (Ok (Some bound)) h k = λ p i holds. let r = h p holds in k p i r.first r.second r.left r.right r.related
 
 same_eq : (x y : ℤ) → int_eq x y ≡ true → int_eq y x ≡ true
 same_eq x y h = and_true (int_le y x) (int_le x y) (and_right (int_le x y) (int_le y x) h) (and_left (int_le x y) (int_le y x) h)
 
-module _ (spans : List Span) (t x y : Ground) (o : Option Bound) where
-  pub eq_left : t ≡ g.Eq x y → IfSome o (IsTied spans x Equal y) → IfSome o (Bounds spans t)
+module _ (spans : List Span) (t x y : Ground) (o : Result (Option Bound) AllocError) where
+  pub eq_left : t ≡ g.Eq x y → IfOk o (λ q. IfSome q (IsTied spans x Equal y)) → IfOk o (λ q. IfSome q (Bounds spans t))
   eq_left e = bounds_from spans t x y Equal o (λ p h. let c = compared int_eq (value p x).number (value p y).number (sym (ap (λ (m : Meaning). m.truth) (ap (value p) e ∙ value_at_layer p (g.Eq x y) (F.Eq x y) (g.outs-Eq x y))) ∙ h) in record { first = c.first; second = c.second; left = c.left; right = c.right; related = c.passes })
 
-  pub eq_right : t ≡ g.Eq x y → IfSome o (IsTied spans y Equal x) → IfSome o (Bounds spans t)
+  pub eq_right : t ≡ g.Eq x y → IfOk o (λ q. IfSome q (IsTied spans y Equal x)) → IfOk o (λ q. IfSome q (Bounds spans t))
   eq_right e = bounds_from spans t y x Equal o (λ p h. let c = compared int_eq (value p x).number (value p y).number (sym (ap (λ (m : Meaning). m.truth) (ap (value p) e ∙ value_at_layer p (g.Eq x y) (F.Eq x y) (g.outs-Eq x y))) ∙ h) in record { first = c.second; second = c.first; left = c.right; right = c.left; related = same_eq c.first c.second c.passes })
 
-  pub le_left : t ≡ g.Le x y → IfSome o (IsTied spans x AtMost y) → IfSome o (Bounds spans t)
+  pub le_left : t ≡ g.Le x y → IfOk o (λ q. IfSome q (IsTied spans x AtMost y)) → IfOk o (λ q. IfSome q (Bounds spans t))
   le_left e = bounds_from spans t x y AtMost o (λ p h. let c = compared int_le (value p x).number (value p y).number (sym (ap (λ (m : Meaning). m.truth) (ap (value p) e ∙ value_at_layer p (g.Le x y) (F.Le x y) (g.outs-Le x y))) ∙ h) in record { first = c.first; second = c.second; left = c.left; right = c.right; related = c.passes })
 
-  pub le_right : t ≡ g.Le x y → IfSome o (IsTied spans y AtLeast x) → IfSome o (Bounds spans t)
+  pub le_right : t ≡ g.Le x y → IfOk o (λ q. IfSome q (IsTied spans y AtLeast x)) → IfOk o (λ q. IfSome q (Bounds spans t))
   le_right e = bounds_from spans t y x AtLeast o (λ p h. let c = compared int_le (value p x).number (value p y).number (sym (ap (λ (m : Meaning). m.truth) (ap (value p) e ∙ value_at_layer p (g.Le x y) (F.Le x y) (g.outs-Le x y))) ∙ h) in record { first = c.second; second = c.first; left = c.right; right = c.left; related = c.passes })
 
-  pub lt_left : t ≡ g.Lt x y → IfSome o (IsTied spans x Less y) → IfSome o (Bounds spans t)
+  pub lt_left : t ≡ g.Lt x y → IfOk o (λ q. IfSome q (IsTied spans x Less y)) → IfOk o (λ q. IfSome q (Bounds spans t))
   lt_left e = bounds_from spans t x y Less o (λ p h. let c = compared int_lt (value p x).number (value p y).number (sym (ap (λ (m : Meaning). m.truth) (ap (value p) e ∙ value_at_layer p (g.Lt x y) (F.Lt x y) (g.outs-Lt x y))) ∙ h) in record { first = c.first; second = c.second; left = c.left; right = c.right; related = c.passes })
 
-  pub lt_right : t ≡ g.Lt x y → IfSome o (IsTied spans y Greater x) → IfSome o (Bounds spans t)
+  pub lt_right : t ≡ g.Lt x y → IfOk o (λ q. IfSome q (IsTied spans y Greater x)) → IfOk o (λ q. IfSome q (Bounds spans t))
   lt_right e = bounds_from spans t y x Greater o (λ p h. let c = compared int_lt (value p x).number (value p y).number (sym (ap (λ (m : Meaning). m.truth) (ap (value p) e ∙ value_at_layer p (g.Lt x y) (F.Lt x y) (g.outs-Lt x y))) ∙ h) in record { first = c.second; second = c.first; left = c.right; right = c.left; related = c.passes })
 
 -- a proper box is one within itself
@@ -282,6 +282,9 @@ stepped br cons b n (Ok step) so h = by_step step h
     by_step (Answered p) only = record { inside = box_in_sets b n so.box p only.inside; meets = only.meets; alone = λ q i m. only.alone q (so.keeps q i m) m }
     by_step (Split c d) cuts = record { narrowed = n; narrows = so; cuts = cuts }
 
--- the enclosure of a well-formed tree, read from the sets of a proper box
-pub enclosed : (b : Box) (t : Ground) (o : Option Enclosure) → IsProper b → o ≡ known (is_well_formed (declared_spans b) t) (enclosure (declared_spans b) t) → is_well_formed (spans_of b) t ≡ true → o ≡ Some (enclosure (spans_of b) t)
-enclosed b t o i e h = e ∙ ap (λ s. known (is_well_formed s t) (enclosure s t)) (declared_same b i) ∙ ap (λ q. known q (enclosure (spans_of b) t)) h
+-- a proper box has the same intervals, where its sets are read as declared ones
+pub declared_fit : (b : Box) (t : Ground) → IsProper b → is_well_formed (spans_of b) t ≡ true → is_well_formed (declared_spans b) t ≡ true
+declared_fit b t i h = ap (λ s. is_well_formed s t) (declared_same b i) ∙ h
+
+pub declared_hull : (b : Box) (t : Ground) (r : Result Hull AllocError) → IsProper b → IfOk r (λ h. h ≡ hull_of (enclosure (declared_spans b) t)) → IfOk r (λ h. h ≡ hull_of (enclosure (spans_of b) t))
+declared_hull b t r i h = subst (λ s. IfOk r (λ h. h ≡ hull_of (enclosure s t))) (declared_same b i) h

@@ -1,19 +1,20 @@
 -- What holds of each element that a loop has passed.
-use Rattle.std.proofs.Common.{◌≡◌, Option, Some, None, ℕ, ◌+◌, ◌<◌, ◌≤◌, List, length, take, get_or, refl, subst, true, false, Bool, not}
-use Rattle.std.specs.Prelude.{All, Any, MatchBool}
+use Rattle.std.proofs.Common.{◌≡◌, Option, Some, None, ℕ, ◌+◌, ◌<◌, ◌≤◌, List, length, take, get_or, refl, sym, ap, ◌∙◌, subst, true, false, Bool, not}
+use Rattle.std.specs.Prelude.{All, MatchBool}
 use Rattle.std.proofs.lemmas.List.{take_all}
 use Rattle.std.proofs.lemmas.List.Elements.{All-more}
 use Rattle.ms_num.specs.Span.{Span}
 use Rattle.ms_trees.specs.declared.tree.Ground.{Ground}
 use Rattle.ms_trees.specs.declared.tree.Enclosure.{Enclosure}
-use Rattle.ms_trees.specs.Enclosure.{hull_at}
+use Rattle.ms_trees.specs.Value.{value}
+use Rattle.ms_trees.specs.Enclosure.{enclosure, hull_at, points}
 use Rattle.ms_trees.specs.WellFormed.{IsTruth}
-use Rattle.ms_trees.specs.Laws.{IsRefuted, RefutedMeansUnmet}
-use Rattle.ms_boxes.specs.Boxes.{Box, box_of, IsProper}
+use Rattle.ms_trees.specs.Laws.{exact, IsRefuted, PointsMeanThemselves, RefutedMeansUnmet}
+use Rattle.ms_boxes.specs.Boxes.{Assignment, Box, box_of, box_size, least_point, IsProper}
 use Rattle.ms_num.specs.Sets.{spans_of}
-use Rattle.ms_boxes.specs.Trees.{HoldsNone, NoneRefuted}
-use Rattle.ms_session.specs.Plain.{MayBeTrue}
+use Rattle.ms_boxes.specs.Trees.{HoldsNone, IsOnly, NoneRefuted}
 use Rattle.ms_boxes.proofs.SharedFitting.{refuted_none}
+use Rattle.ms_boxes.proofs.SharedSingles.{single_fit, single_only, single_spans}
 
 pub passed_more : {X : Type 0} (P : X → Type 0) (xs : List X) (i : ℕ) (x : X) → i < length xs → x ≡ get_or xs i x → All P (take i xs) → P x → All P (take (i + 1) xs)
 passed_more P xs i x l e h p = All-more P xs i x l h (subst P e p)
@@ -21,10 +22,18 @@ passed_more P xs i x l e h p = All-more P xs i x l h (subst P e p)
 pub passed_all : {X : Type 0} (P : X → Type 0) (xs : List X) (i : ℕ) → length xs ≤ i → All P (take i xs) → All P xs
 passed_all P xs i l h = subst (All P) (take_all i xs l) h
 
--- whether a constraint is refuted, by whether each may hold
-pub refuted_by : RefutedMeansUnmet → (b : Box) (cons : List Ground) (spans : List Span) (r : Bool) → IsProper b → All (IsTruth (spans_of b)) cons → spans ≡ spans_of b → MatchBool r (All (MayBeTrue spans) cons) (Any (IsRefuted spans) cons) → MatchBool (not r) (HoldsNone cons b) (NoneRefuted cons b)
-refuted_by law b cons spans true i fit e h = subst (λ s. All (MayBeTrue s) cons) e h
-refuted_by law b cons spans false i fit e h = refuted_none law b cons i fit (subst (λ s. Any (IsRefuted s) cons) e h)
+-- a constraint that is refuted is met nowhere on the box
+pub refuted_at : RefutedMeansUnmet → (b : Box) (cons : List Ground) (i : ℕ) (g : Ground) → i < length cons → g ≡ get_or cons i g → IsProper b → All (IsTruth (spans_of b)) cons → IsRefuted (spans_of b) g → HoldsNone cons b
+refuted_at law b cons i g l e proper fit r = refuted_none law b cons proper fit (i, g, l, sym e, r)
+
+-- on a box of one assignment interval reasoning is exact
+pub single_answer : PointsMeanThemselves → (b : Box) (cons : List Ground) (p : Assignment) → IsProper b → box_size b ≡ 1 → p ≡ least_point b → All (IsTruth (spans_of b)) cons → NoneRefuted cons b → IsOnly cons b p
+single_answer law b cons p i e f fit none = single_only b cons p i e f (λ k d l. at (get_or cons k d) (single_fit b cons p i e f fit k d l) (none k d l))
+  where
+    at : (g : Ground) → IsTruth (points p) g → (enclosure (spans_of b) g).may_be_true ≡ true → (value p g).truth ≡ true
+    at g t m =
+        sym (ap (λ (q : Enclosure). q.may_be_true) (law p g t.fit ∙ ap (λ n. exact n (value p g)) t.boolean))
+        ∙ sym (ap (λ s. (enclosure s g).may_be_true) (single_spans b i e ∙ ap points (sym f))) ∙ m
 
 pub not_false : (b : Bool) → not b ≡ false → b ≡ true
 not_false true e = refl

@@ -8,6 +8,7 @@ ghost use Rattle.ms_boxes.specs.Trees.{HoldsNone};
 ghost use Rattle.ms_session.specs.Narrowing.{is_kept, IsTied, Bounds, CutsAway, CutsTo, Narrows, MeetsNone, NarrowsBy};
 
 use crate::plain_node::hull_on;
+use ms_evaluator::Evaluator;
 use ms_ground::{Ground, Hull, hull_laws};
 use ms_num::{Ranges, Sets};
 use std::alloc::{AllocError, Global};
@@ -32,7 +33,12 @@ pub struct Bound {
 
 /// Cuts the set of each variable that an equality or an order ties to a tree, by what the tree may mean on the box so far.
 /// Nothing is left where no assignment of the box meets the constraints, as far as that tells.
-pub fn narrow(alloc: Global, sets: Sets, constraints: &[Ground]) -> Result<Option<Sets>, AllocError>
+pub fn narrow(
+    alloc: Global,
+    evaluator: &mut Evaluator,
+    sets: Sets,
+    constraints: &[Ground],
+) -> Result<Option<Sets>, AllocError>
     requires proper { IsProper (box_of sets) }
     requires fit { All (IsTruth (spans_of (box_of sets))) constraints.now }
     ensures { IfOk result (λ narrowed. MatchOption narrowed (HoldsNone constraints.now (box_of sets)) (λ n. Narrows constraints.now (box_of sets) (box_of n))) }
@@ -40,7 +46,7 @@ pub fn narrow(alloc: Global, sets: Sets, constraints: &[Ground]) -> Result<Optio
     hull_laws();
     let mut current = sets;
     for constraint in constraints {
-        match narrow_by(alloc, current, constraint)? {
+        match narrow_by(alloc, evaluator, current, constraint)? {
             Some(narrowed) => current = narrowed,
             None => return Ok(None),
         }
@@ -49,7 +55,12 @@ pub fn narrow(alloc: Global, sets: Sets, constraints: &[Ground]) -> Result<Optio
 }
 
 // The same by one constraint: its left part is cut, and then its right part on what is left.
-fn narrow_by(alloc: Global, sets: Sets, constraint: &Ground) -> Result<Option<Sets>, AllocError>
+fn narrow_by(
+    alloc: Global,
+    evaluator: &mut Evaluator,
+    sets: Sets,
+    constraint: &Ground,
+) -> Result<Option<Sets>, AllocError>
     requires proper { IsProper (box_of sets) }
     requires fit { IsTruth (spans_of (box_of sets)) constraint.now }
     ensures { IfOk result (λ narrowed. MatchOption narrowed (MeetsNone constraint.now (box_of sets)) (λ n. NarrowsBy constraint.now (box_of sets) (box_of n))) }
@@ -58,8 +69,8 @@ fn narrow_by(alloc: Global, sets: Sets, constraint: &Ground) -> Result<Option<Se
         return Ok(Some(sets));
     }
     hull_laws();
-    match narrow_left(alloc, sets, constraint)? {
-        Some(narrowed) => narrow_right(alloc, narrowed, constraint),
+    match narrow_left(alloc, evaluator, sets, constraint)? {
+        Some(narrowed) => narrow_right(alloc, evaluator, narrowed, constraint),
         None => Ok(None),
     }
 }
@@ -72,70 +83,96 @@ fn is_comparison(constraint: &Ground) -> bool {
 }
 
 // Cuts the left part of a comparison, where it is a variable.
-fn narrow_left(alloc: Global, sets: Sets, constraint: &Ground) -> Result<Option<Sets>, AllocError>
+fn narrow_left(
+    alloc: Global,
+    evaluator: &mut Evaluator,
+    sets: Sets,
+    constraint: &Ground,
+) -> Result<Option<Sets>, AllocError>
     requires proper { IsProper (box_of sets) }
     requires fit { IsTruth (spans_of (box_of sets)) constraint.now }
     ensures { IfOk result (λ narrowed. MatchOption narrowed (MeetsNone constraint.now (box_of sets)) (λ n. NarrowsBy constraint.now (box_of sets) (box_of n))) }
 {
-    match left_bound(constraint, sets.as_slice()) {
+    match left_bound(evaluator, constraint, sets.as_slice())? {
         Some(bound) => cut(alloc, sets, bound),
         None => Ok(Some(sets)),
     }
 }
 
 // The same of the right part.
-fn narrow_right(alloc: Global, sets: Sets, constraint: &Ground) -> Result<Option<Sets>, AllocError>
+fn narrow_right(
+    alloc: Global,
+    evaluator: &mut Evaluator,
+    sets: Sets,
+    constraint: &Ground,
+) -> Result<Option<Sets>, AllocError>
     requires proper { IsProper (box_of sets) }
     requires fit { IsTruth (spans_of (box_of sets)) constraint.now }
     ensures { IfOk result (λ narrowed. MatchOption narrowed (MeetsNone constraint.now (box_of sets)) (λ n. NarrowsBy constraint.now (box_of sets) (box_of n))) }
 {
-    match right_bound(constraint, sets.as_slice()) {
+    match right_bound(evaluator, constraint, sets.as_slice())? {
         Some(bound) => cut(alloc, sets, bound),
         None => Ok(Some(sets)),
     }
 }
 
-fn left_bound(constraint: &Ground, sets: &[Ranges]) -> Option<Bound>
+fn left_bound(
+    evaluator: &mut Evaluator,
+    constraint: &Ground,
+    sets: &[Ranges],
+) -> Result<Option<Bound>, AllocError>
     requires proper { IsProper (box_of sets.now) }
     requires fit { IsTruth (spans_of (box_of sets.now)) constraint.now }
-    ensures { IfSome result (Bounds (spans_of (box_of sets.now)) constraint.now) }
+    ensures { IfOk result (λ bound. IfSome bound (Bounds (spans_of (box_of sets.now)) constraint.now)) }
 {
     match constraint {
-        Ground::Eq(a, b) => tied(a.get(), Relation::Equal, b.get(), sets),
-        Ground::Le(a, b) => tied(a.get(), Relation::AtMost, b.get(), sets),
-        Ground::Lt(a, b) => tied(a.get(), Relation::Less, b.get(), sets),
-        _ => None,
+        Ground::Eq(a, b) => tied(evaluator, a.get(), Relation::Equal, b.get(), sets),
+        Ground::Le(a, b) => tied(evaluator, a.get(), Relation::AtMost, b.get(), sets),
+        Ground::Lt(a, b) => tied(evaluator, a.get(), Relation::Less, b.get(), sets),
+        _ => Ok(None),
     }
 }
 
-fn right_bound(constraint: &Ground, sets: &[Ranges]) -> Option<Bound>
+fn right_bound(
+    evaluator: &mut Evaluator,
+    constraint: &Ground,
+    sets: &[Ranges],
+) -> Result<Option<Bound>, AllocError>
     requires proper { IsProper (box_of sets.now) }
     requires fit { IsTruth (spans_of (box_of sets.now)) constraint.now }
-    ensures { IfSome result (Bounds (spans_of (box_of sets.now)) constraint.now) }
+    ensures { IfOk result (λ bound. IfSome bound (Bounds (spans_of (box_of sets.now)) constraint.now)) }
 {
     match constraint {
-        Ground::Eq(a, b) => tied(b.get(), Relation::Equal, a.get(), sets),
-        Ground::Le(a, b) => tied(b.get(), Relation::AtLeast, a.get(), sets),
-        Ground::Lt(a, b) => tied(b.get(), Relation::Greater, a.get(), sets),
-        _ => None,
+        Ground::Eq(a, b) => tied(evaluator, b.get(), Relation::Equal, a.get(), sets),
+        Ground::Le(a, b) => tied(evaluator, b.get(), Relation::AtLeast, a.get(), sets),
+        Ground::Lt(a, b) => tied(evaluator, b.get(), Relation::Greater, a.get(), sets),
+        _ => Ok(None),
     }
 }
 
 // The bound of a part that is a variable, by the other part.
-fn tied(part: &Ground, relation: Relation, tree: &Ground, sets: &[Ranges]) -> Option<Bound>
+fn tied(
+    evaluator: &mut Evaluator,
+    part: &Ground,
+    relation: Relation,
+    tree: &Ground,
+    sets: &[Ranges],
+) -> Result<Option<Bound>, AllocError>
     requires proper { IsProper (box_of sets.now) }
     requires fit { is_well_formed (spans_of (box_of sets.now)) tree.now ≡ true }
     requires number { is_numeric tree.now ≡ true }
-    ensures { IfSome result (IsTied (spans_of (box_of sets.now)) part.now relation tree.now) }
+    ensures { IfOk result (λ bound. IfSome bound (IsTied (spans_of (box_of sets.now)) part.now relation tree.now)) }
 {
     hull_laws();
-    let variable = variable_of(part)?;
-    let hull = hull_on(tree, sets);
-    Some(Bound {
+    let Some(variable) = variable_of(part) else {
+        return Ok(None);
+    };
+    let hull = hull_on(evaluator, tree, sets)?;
+    Ok(Some(Bound {
         variable,
         relation,
         hull,
-    })
+    }))
 }
 
 fn variable_of(tree: &Ground) -> Option<u32>

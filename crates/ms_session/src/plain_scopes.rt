@@ -8,6 +8,7 @@ use crate::plain_node::box_step;
 use crate::plain_scope::{Parent, PlainScope};
 use crate::session::{Session, Step};
 use ms_base::Point;
+use ms_evaluator::Evaluator;
 use ms_ground::{Branching, Ground, hull_laws, size};
 use ms_num::{Ranges, Sets};
 use std::alloc::{AllocError, Global};
@@ -18,6 +19,7 @@ use std::mem;
 #[derive(Drop)]
 pub struct PlainScopes {
     alloc: Global,
+    evaluator: Evaluator,
     declared: Sets,
     branching: Branching,
     // Those of the current scope: the first of them are those of the scopes below it.
@@ -70,6 +72,7 @@ impl PlainScopes {
         let current = PlainScope::open(alloc, &declared, live)?;
         Ok(PlainScopes {
             alloc,
+            evaluator: Evaluator::new(alloc),
             declared,
             branching,
             constraints,
@@ -117,7 +120,8 @@ impl PlainScopes {
             return Ok(None);
         };
         let constraints = self.constraints.as_slice();
-        let step = box_step(self.alloc, first, constraints, &self.branching)?;
+        let evaluator = &mut self.evaluator;
+        let step = box_step(self.alloc, evaluator, first, constraints, &self.branching)?;
         self.current.apply(self.alloc, step)
     }
 
