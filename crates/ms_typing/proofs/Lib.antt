@@ -1,0 +1,12 @@
+pub mod Calls
+pub mod Chains
+pub mod Choices
+pub mod Converting
+pub mod Joins
+pub mod Judging
+pub mod KnownRows
+pub mod Knowing
+pub mod Leasts
+pub mod SharedJudging
+pub mod Sound
+pub mod Uniform

@@ -1,0 +1,10 @@
+pub mod Conversion
+pub mod Fault
+pub mod HasType
+pub mod Items
+pub mod Judged
+pub mod Kinds
+pub mod Least
+pub mod Meaning
+pub mod Row
+pub mod Term
