@@ -1,11 +1,13 @@
 -- The typed tree of an expression that has a type.
-use Rattle.std.specs.Prelude.{ℕ, Bool, true, false, not, ◌||◌, ◌&&◌, List, [], ◌∷◌, length, Option, Some, None, option_map, unwrap_or, if◌then◌else◌}
+use Rattle.std.specs.Prelude.{ℕ, suc, nat_lt, Bool, true, false, not, ◌||◌, ◌&&◌, List, [], ◌∷◌, length, take, drop, Option, Some, None, option_map, unwrap_or, if◌then◌else◌}
 use Rattle.ms_syntax.specs.declared.token.Place.{Place}
 use Rattle.ms_syntax.specs.declared.tree.Operator.{Operator}
+use Rattle.ms_syntax.specs.declared.tree.Operator.TheVariants as o
 use Rattle.ms_syntax.specs.Tree.{Arms, Decl, Decls, Ex, Exs, Gens, Links, Maybe, Rows, Subscripts}
 use Rattle.ms_syntax.specs.Tree as x
 use Rattle.ms_typing.specs.declared.types.ExprType.{ExprType}
 use Rattle.ms_typing.specs.declared.types.ExprType.TheVariants.{Plain, Text, Set, Search}
+use Rattle.ms_typing.specs.declared.types.Scalar.TheVariants.{Number}
 use Rattle.ms_typing.specs.declared.types.Shape.TheVariants.{Single, Line}
 use Rattle.ms_typing.specs.declared.types.Surroundings.{Surroundings}
 use Rattle.ms_built_ins.specs.declared.names.BuiltIn.{BuiltIn}
@@ -59,12 +61,15 @@ asked_operand whole own = if is_search whole || is_array_type whole then whole e
 
 -- ---- what functions ask for
 
--- the searches among the arguments of a built-in name
+-- the searches among the arguments of a built-in name, the constraint that is posted and the vector that is kept; a
+-- built-in name takes all others as they are
 abbrev pub asked_of_built_in : BuiltIn → List ExprType → List ExprType
 asked_of_built_in b.Scope ts = Search ∷ []
 asked_of_built_in b.Repeat ts = Search ∷ []
 asked_of_built_in b.TimeLimit [] = []
 asked_of_built_in b.TimeLimit (t ∷ ts) = t ∷ Search ∷ []
+asked_of_built_in b.Post ts = truths false ∷ []
+asked_of_built_in b.Keep ts = Plain Number Line false ∷ []
 asked_of_built_in other ts = ts
 
 -- the types of arguments, where these are their own
@@ -75,21 +80,17 @@ asked_of (m.means (m.value t)) ts = ts
 asked_of (m.barred meaning) ts = ts
 asked_of m.unknown ts = ts
 
--- the type of the array that a function is given, where its elements are of this type
-abbrev pub gathered_by : BuiltIn → ExprType → ExprType
-gathered_by b.Repeat t = Search
-gathered_by other t = shaped Line t
-
 abbrev pub first_or : ExprType → List ExprType → ExprType
 first_or t [] = t
 first_or t (u ∷ us) = u
 
+-- the type of the array that a function is given, where its elements are of this type
 abbrev pub gathered : Told → ExprType → ExprType
-gathered (m.means (m.function us u)) t = first_or (shaped Line t) us
-gathered (m.means (m.built_in name)) t = gathered_by name t
-gathered (m.means (m.value u)) t = shaped Line t
-gathered (m.barred meaning) t = shaped Line t
-gathered m.unknown t = shaped Line t
+gathered told t = first_or (shaped Line t) (asked_of told (shaped Line t ∷ []))
+
+abbrev pub is_repeat : Told → Bool
+is_repeat (m.means (m.built_in b.Repeat)) = true
+is_repeat told = false
 
 -- ---- conditions
 
@@ -101,6 +102,28 @@ condition_of t = if is_search t then k.Search else (if known_of t then k.Known e
 -- an operand of a chain, where the whole is of the first type and the operand of the second
 abbrev pub operand : ExprType → ExprType → Code → Code
 operand whole own e = brought (asked_operand whole own) own e
+
+abbrev pub is_xor : Operator → Bool
+is_xor o.Xor = true
+is_xor other = false
+
+-- how many links of a chain there are through the last `xor`; 0 where there is none
+abbrev pub through_xor : Links → ℕ
+through_xor x.no_links = 0
+through_xor (x.link op p e links) = if nat_lt 0 (through_xor links) then suc (through_xor links) else (if is_xor op then 1 else 0)
+
+-- a chain from its first operand and its links, which are given as they are and brought to what the chain asks. Of a chain
+-- that is a search, what stands through the last `xor` is one operand, a known bool
+abbrev pub chain : ExprType → ExprType → ℕ → Code → List Link → List Link → Code
+chain whole own n first plain asked =
+    if is_search whole && nat_lt 0 n then c.Chain (c.Convert Search (c.Chain first (take n plain))) (drop n asked)
+    else c.Chain (operand whole own first) asked
+
+-- the call of a function whose array is made by generators
+abbrev pub generator_call : Told → Place → Reference → ExprType → Generators → Code → Code
+generator_call told p r own gens e =
+    if is_repeat told then c.RepeatEach p gens (brought Search own e)
+    else c.Call p r (c.Gathered p (gathered told own) gens (brought (shaped Single (gathered told own)) own e) ∷ [])
 
 -- a condition of this type, with its branch
 abbrev pub arm : ExprType → Code → Code → Arm
@@ -139,7 +162,7 @@ abbrev mutual
   code_of world s ns (x.let_in p ds closed e) = c.Let p (locals_code world s ns ds) (code_of world s (with_locals ds ns) e)
   code_of world s ns (x.chain level e links) =
       let whole = type_of world s ns (x.chain level e links) in
-      c.Chain (operand whole (type_of world s ns e) (code_of world s ns e)) (links_code whole world s ns links)
+      chain whole (type_of world s ns e) (through_xor links) (code_of world s ns e) (links_code (truths true) world s ns links) (links_code whole world s ns links)
   code_of world s ns (x.prefix p sign e) = c.Prefix p sign (code_of world s ns e)
   code_of world s ns (x.access p e is) = c.Access p (code_of world s ns e) (subscripts_code world s ns is)
   code_of world s ns (x.number p n) = c.Number p n
@@ -150,10 +173,8 @@ abbrev mutual
       c.Call p (led (refer world p ns w)) (arguments_code (asked_of (tell s (look world p ns w)) (types_of world s ns es)) world s ns es)
   code_of world s ns (x.generator_call p w gs condition e) =
       let inner = with_gens gs ns in
-      let own = type_of world s inner e in
-      let array = gathered (tell s (look world p ns w)) own in
-      c.GeneratorCall p (led (refer world p ns w)) array (generators (gens_code world s ns gs) (maybe_code world s inner condition))
-        (brought (shaped Single array) own (code_of world s inner e))
+      generator_call (tell s (look world p ns w)) p (led (refer world p ns w)) (type_of world s inner e)
+        (generators (gens_code world s ns gs) (maybe_code world s inner condition)) (code_of world s inner e)
   code_of world s ns (x.paren p e) = c.Parenthesis p (code_of world s ns e)
   code_of world s ns (x.array p es) =
       let whole = type_of world s ns (x.array p es) in

@@ -8,7 +8,7 @@ use Rattle.ms_typing.specs.declared.types.ExprType.{ExprType}
 use Rattle.ms_typing.specs.declared.types.ExprType.TheVariants.{Search, Text}
 use Rattle.ms_typing.specs.declared.types.Surroundings.{Surroundings}
 use Rattle.ms_typing.specs.declared.types.Surroundings.TheVariants as s
-use Rattle.ms_typing.specs.Conversion.{as_known, numbers, shape_of, truths}
+use Rattle.ms_typing.specs.Conversion.{as_known, known_of, numbers, shape_of, truths}
 use Rattle.ms_typing.specs.Kinds.{type_of_kind}
 use Rattle.ms_typing.specs.Meaning.{Globals, Meaning, Names, World, is_search}
 use Rattle.ms_typing.specs.Meaning as m
@@ -76,10 +76,14 @@ abbrev pub assignment_code : World → Place → Ex → Option (ℕ × ExprType)
 assignment_code world p e None = i.Assign p None (code_of world s.Model [] e)
 assignment_code world p e (Some r) = i.Assign p (Some r.0) (asked_code r.1 world s.Model [] e)
 
+-- an objective is an int, known or variable as it is
+abbrev pub objective_code : World → Ex → Code
+objective_code world e = asked_code (numbers (known_of (type_of world s.Model [] e))) world s.Model [] e
+
 abbrev pub goal_code : World → Gl → Goal
 goal_code world (x.satisfy p) = g.Satisfy
-goal_code world (x.minimize p e) = g.Minimize (asked_code (numbers false) world s.Model [] e)
-goal_code world (x.maximize p e) = g.Maximize (asked_code (numbers false) world s.Model [] e)
+goal_code world (x.minimize p e) = g.Minimize (objective_code world e)
+goal_code world (x.maximize p e) = g.Maximize (objective_code world e)
 goal_code world (x.search_by p e) = g.Search (asked_code Search world s.Search [] e)
 
 abbrev pub item_code : World → It → Item
@@ -95,3 +99,8 @@ item_code world (x.function p k w ps e) = i.Function (function_code world p ps (
 
 abbrev pub items_code : World → List It → List Item
 items_code world = map (item_code world)
+
+-- ---- data: a value for a name of this type
+
+abbrev pub data_code : ExprType → World → Ex → Code
+data_code t world e = asked_code t world s.Data [] e

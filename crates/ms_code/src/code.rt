@@ -8,7 +8,7 @@ use sqlite_items::{Boxed, Items};
 /// What a name stands for.
 #[derive(Clone, Copy, PartialEq, Eq)]
 pub enum Reference {
-    /// A parameter, a local or a name of a generator: how many were declared after it.
+    /// A parameter, a local or a name of a generator: how many were declared after it. Parameters that are searches count too.
     Local(usize),
     /// What the model declares, counted from 0 among the names of its items.
     Model(usize),
@@ -45,8 +45,11 @@ pub enum Code {
     Access(Place, Boxed<Code>, Items<Subscript>),
     /// A function and its arguments.
     Call(Place, Reference, Items<Code>),
-    /// A function of an array of this type, made by generators. For `repeat` the type is that of a search.
-    GeneratorCall(Place, Reference, ExprType, Generators, Boxed<Code>),
+    /// The array of this type that `f(generators)(element)` gives to `f`, with the place of the call. It is no node of the
+    /// text and takes no evaluation step.
+    Gathered(Place, ExprType, Generators, Boxed<Code>),
+    /// `repeat(generator)(search)`
+    RepeatEach(Place, Generators, Boxed<Code>),
     /// An array of this type.
     Array(Place, ExprType, Items<Code>),
     /// An array of this type, of two dimensions.

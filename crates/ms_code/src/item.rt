@@ -34,9 +34,9 @@ pub struct Function {
 #[derive(Drop)]
 pub enum Goal {
     Satisfy,
-    /// A variable integer.
+    /// An integer, known or variable.
     Minimize(Code),
-    /// A variable integer.
+    /// An integer, known or variable.
     Maximize(Code),
     Search(Code),
 }
