@@ -241,7 +241,7 @@ abbrev mutual
   locals_code world s ns (x.decl d ds) = local_code world s ns d ∷ locals_code world s (with_local d ns) ds
 
   pub local_code : World → Surroundings → Names → Decl → Code
-  local_code world s ns (x.declare p kind w notes value) = value_code (seen s (type_of_kind kind)) world s ns value
+  local_code world s ns (x.declare p kd w notes value) = value_code (seen s (type_of_kind kd)) world s ns value
 
   -- a value brought to this type; every local has one
   pub value_code : ExprType → World → Surroundings → Names → Maybe → Code
