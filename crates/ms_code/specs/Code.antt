@@ -174,7 +174,7 @@ abbrev mutual
   code_of world s ns (x.generator_call p w gs condition e) =
       let inner = with_gens gs ns in
       generator_call (tell s (look world p ns w)) p (led (refer world p ns w)) (type_of world s inner e)
-        (generators (gens_code world s ns gs) (maybe_code world s inner condition)) (code_of world s inner e)
+      (generators (gens_code world s ns gs) (maybe_code world s inner condition)) (code_of world s inner e)
   code_of world s ns (x.paren p e) = c.Parenthesis p (code_of world s ns e)
   code_of world s ns (x.array p es) =
       let whole = type_of world s ns (x.array p es) in
@@ -182,7 +182,7 @@ abbrev mutual
   code_of world s ns (x.comprehension p e gs condition) =
       let inner = with_gens gs ns in
       c.Comprehension p (type_of world s ns (x.comprehension p e gs condition)) (generators (gens_code world s ns gs) (maybe_code world s inner condition))
-        (code_of world s inner e)
+      (code_of world s inner e)
   code_of world s ns (x.rows p rs) =
       let whole = type_of world s ns (x.rows p rs) in
       c.Rows p whole (rows_code (shaped Single whole) world s ns rs)
@@ -190,7 +190,7 @@ abbrev mutual
   code_of world s ns (x.if_else p e b arms last) =
       let whole = type_of world s ns (x.if_else p e b arms last) in
       c.If p (arm (type_of world s ns e) (code_of world s ns e) (brought whole (type_of world s ns b) (code_of world s ns b)) ∷ arms_code whole world s ns arms)
-        (brought whole (type_of world s ns last) (code_of world s ns last))
+      (brought whole (type_of world s ns last) (code_of world s ns last))
 
   -- what follows the first operand of a chain of the first type
   pub links_code : ExprType → World → Surroundings → Names → Links → List Link

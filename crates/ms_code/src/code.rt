@@ -1,7 +1,7 @@
 //! Typed expressions whose names are places.
 
-use ms_syntax::{Operator, Place, Sign, Word};
 use ms_built_ins::BuiltIn;
+use ms_syntax::{Operator, Place, Sign, Word};
 use ms_typing::ExprType;
 use sqlite_items::{Boxed, Items};
 
