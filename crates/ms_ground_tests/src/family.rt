@@ -1,9 +1,11 @@
 //! What a tree may mean against what it means on each point, for a family of small trees and all small boxes.
 
 use crate::tests::{ADD, DIV, EQ, LE, LT, MOD, MUL, NE, SUB, X, Y, number_at, truth_at};
-use crate::{List, Word, tree};
+use crate::{List, Postfix, tree};
+use ms_evaluator::Evaluator;
 use ms_ground::{Ground, Hull, hull, is_well_formed};
 use ms_num::Iv;
+use std::alloc::AllocError;
 use std::process::Abort;
 use std::test::Fail;
 
@@ -124,7 +126,13 @@ fn interval(ends: (i16, i16)) -> Option<Iv> {
 }
 
 /// Compares on all boxes; where no variable stands twice, the hull has nothing that does not come.
-fn compare(rt: &impl Abort, g: &Ground, sort: Sort, is_exact: bool) {
+fn compare(
+    rt: &impl Abort,
+    evaluator: &mut Evaluator,
+    g: &Ground,
+    sort: Sort,
+    is_exact: bool,
+) -> Result<(), AllocError> {
     for xs in ENDS {
         for ys in ENDS {
             let sets = [
@@ -134,45 +142,55 @@ fn compare(rt: &impl Abort, g: &Ground, sort: Sort, is_exact: bool) {
             ];
             assert!(rt; is_well_formed(g, &sets));
             let h = hull(g, &sets);
+            assert!(rt; is_same(h, evaluator.hull(g, sets.as_slice())?));
             let seen = seen_on(rt, g, sort, xs, ys);
             assert!(rt; seen.lies_in(h));
             let is_point = xs.0 == xs.1 && ys.0 == ys.1;
             assert!(rt; seen.fills(h) || !is_point && !is_exact);
         }
     }
+    Ok(())
 }
 
-const OPERATIONS: [(Word, Sort); 17] = [
+/// The two bodies answer the same.
+pub fn is_same(h: Hull, other: Hull) -> bool {
+    (h.lo, h.hi) == (other.lo, other.hi)
+        && (h.may_be_defined, h.may_be_undefined) == (other.may_be_defined, other.may_be_undefined)
+        && (h.may_be_true, h.may_be_false) == (other.may_be_true, other.may_be_false)
+}
+
+const OPERATIONS: [(Postfix, Sort); 17] = [
     (ADD, Sort::Numbers),
     (SUB, Sort::Numbers),
     (MUL, Sort::Numbers),
     (DIV, Sort::Numbers),
     (MOD, Sort::WideNumbers),
-    (Word::All(List::Sum, 2), Sort::Numbers),
-    (Word::All(List::Least, 2), Sort::Numbers),
-    (Word::All(List::Greatest, 2), Sort::Numbers),
-    (Word::Elem(0, 1), Sort::Numbers),
-    (Word::Elem2(-1, 0, 1, 0), Sort::Numbers),
-    (Word::Count(1), Sort::Numbers),
+    (Postfix::All(List::Sum, 2), Sort::Numbers),
+    (Postfix::All(List::Least, 2), Sort::Numbers),
+    (Postfix::All(List::Greatest, 2), Sort::Numbers),
+    (Postfix::Elem(0, 1), Sort::Numbers),
+    (Postfix::Elem2(-1, 0, 1, 0), Sort::Numbers),
+    (Postfix::Count(1), Sort::Numbers),
     (EQ, Sort::Truths),
     (NE, Sort::Truths),
     (LT, Sort::Truths),
     (LE, Sort::Truths),
-    (Word::All(List::AllDiff, 2), Sort::Truths),
-    (Word::All(List::Table, 2), Sort::Truths),
+    (Postfix::All(List::AllDiff, 2), Sort::Truths),
+    (Postfix::All(List::Table, 2), Sort::Truths),
 ];
 
-const LEAVES: [Word; 5] = [X, Y, Word::Num(2), Word::Num(-1), Word::Undef];
+const LEAVES: [Postfix; 5] = [X, Y, Postfix::Num(2), Postfix::Num(-1), Postfix::Undef];
 
 #[test]
 fn hulls_have_what_the_points_have(rt: HostRuntime) -> Result<(), Fail> {
+    let mut evaluator = Evaluator::new(rt.alloc());
     for (operation, sort) in OPERATIONS {
         for i in 0..5usize {
             for j in 0..5usize {
                 let words = [LEAVES[i], LEAVES[j], operation];
                 let g = tree(rt.alloc(), &words)?.expect(&rt, "a tree");
                 let is_exact = sort != Sort::WideNumbers && (i != j || 2 <= i);
-                compare(&rt, &g, sort, is_exact);
+                compare(&rt, &mut evaluator, &g, sort, is_exact)?;
             }
         }
     }

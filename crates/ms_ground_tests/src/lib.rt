@@ -1,16 +1,18 @@
-//! Trees written as words, and the tests of `ms_ground` over them.
+//! Trees written in postfix notation, and the tests of `ms_ground` and `ms_evaluator` over them.
 //!
-//! A [`Word`] is a leaf, or an operation on the trees that the words before it have left; [`tree`] reads a list of
-//! words so. Tables of words keep the tests short. The tests stand in a crate of their own, so that `ms_ground` is
-//! proved once.
+//! A [`Postfix`] is a leaf, or an operation on the trees that the symbols before it have left; [`tree`] reads a list
+//! of symbols so. Tables of such lists keep the tests short. The tests stand in a crate of their own, so that what they
+//! test is proved once.
 #![tactic(auto)]
 
 #[cfg(test)]
+mod evaluated;
+#[cfg(test)]
 mod family;
 #[cfg(test)]
-mod tests;
+mod postfix;
 #[cfg(test)]
-mod words;
+mod tests;
 
 #[cfg(test)]
-pub use words::{Both, List, One, Word, tree};
+pub use postfix::{Both, List, One, Postfix, tree};

@@ -3,7 +3,7 @@
 ghost use Rattle.std.specs.Prelude.{◌≡◌};
 ghost use Rattle.ms_num.specs.Span.{point};
 
-use crate::{Both, List, One, Word, tree};
+use crate::{Both, List, One, Postfix, tree};
 use ms_ground::{
     Branching, Ground, Order, Rows, ValueChoice, copy_trees, holds, hull, hull_laws,
     is_well_formed, membership_law, nesting, room_law, size, value_at,
@@ -14,47 +14,47 @@ use std::alloc::{AllocError, Global};
 use std::process::Abort;
 use std::test::Fail;
 
-pub const X: Word = Word::Var(0);
+pub const X: Postfix = Postfix::Var(0);
 
-pub const Y: Word = Word::Var(1);
+pub const Y: Postfix = Postfix::Var(1);
 
-const B: Word = Word::BVar(2);
+const B: Postfix = Postfix::BVar(2);
 
-pub const ADD: Word = Word::Both(Both::Add);
+pub const ADD: Postfix = Postfix::Both(Both::Add);
 
-pub const SUB: Word = Word::Both(Both::Sub);
+pub const SUB: Postfix = Postfix::Both(Both::Sub);
 
-pub const MUL: Word = Word::Both(Both::Mul);
+pub const MUL: Postfix = Postfix::Both(Both::Mul);
 
-pub const DIV: Word = Word::Both(Both::Div);
+pub const DIV: Postfix = Postfix::Both(Both::Div);
 
-pub const MOD: Word = Word::Both(Both::Mod);
+pub const MOD: Postfix = Postfix::Both(Both::Mod);
 
-const IFF: Word = Word::Both(Both::Iff);
+const IFF: Postfix = Postfix::Both(Both::Iff);
 
-const IMP: Word = Word::Both(Both::Imp);
+const IMP: Postfix = Postfix::Both(Both::Imp);
 
-const XOR: Word = Word::Both(Both::Xor);
+const XOR: Postfix = Postfix::Both(Both::Xor);
 
-pub const EQ: Word = Word::Both(Both::Eq);
+pub const EQ: Postfix = Postfix::Both(Both::Eq);
 
-pub const NE: Word = Word::Both(Both::Ne);
+pub const NE: Postfix = Postfix::Both(Both::Ne);
 
-pub const LT: Word = Word::Both(Both::Lt);
+pub const LT: Postfix = Postfix::Both(Both::Lt);
 
-pub const LE: Word = Word::Both(Both::Le);
+pub const LE: Postfix = Postfix::Both(Both::Le);
 
-const NEG: Word = Word::One(One::Neg);
+pub const NEG: Postfix = Postfix::One(One::Neg);
 
-const ABS: Word = Word::One(One::Abs);
+const ABS: Postfix = Postfix::One(One::Abs);
 
-const TO_INT: Word = Word::One(One::ToInt);
+pub const TO_INT: Postfix = Postfix::One(One::ToInt);
 
-const NOT: Word = Word::One(One::Not);
+pub const NOT: Postfix = Postfix::One(One::Not);
 
-const IN: Word = Word::One(One::In);
+const IN: Postfix = Postfix::One(One::In);
 
-const UNDEF: Word = Word::Undef;
+const UNDEF: Postfix = Postfix::Undef;
 
 /// The number on the point, unless it is undefined, where the tree may be asked there.
 pub fn number_at(g: &Ground, x: i16, y: i16, b: i16) -> Option<Option<i64>> {
@@ -85,7 +85,7 @@ fn single(number: i16) -> Iv
 }
 
 /// An interval, if any, and whether the tree may be undefined.
-type Numbers = (Option<(i64, i64)>, bool);
+pub type Numbers = (Option<(i64, i64)>, bool);
 
 fn numbers_on(g: &Ground, sets: &[Iv]) -> Option<Numbers> {
     if !is_well_formed(g, sets) {
@@ -124,13 +124,13 @@ fn truth_text(truth: Option<bool>) -> &'static str {
 
 // The box of the tables: x in 1..3, y in -1..2 and the Boolean variable. The points are 1, -1, false; 2, 0, true;
 // and 3, 2, true. The quotient of x and y is -1, undefined, and 1 there.
-fn table_box() -> [Iv; 3] {
+pub fn table_box() -> [Iv; 3] {
     [Iv::new(1, 3), Iv::new(-1, 2), Iv::new(0, 1)]
 }
 
-const NUMBERS: [(&[Word], Numbers, [Option<i64>; 3]); 34] = [
+pub const NUMBERS: [(&[Postfix], Numbers, [Option<i64>; 3]); 34] = [
     (
-        &[Word::Num(7)],
+        &[Postfix::Num(7)],
         (Some((7, 7)), false),
         [Some(7), Some(7), Some(7)],
     ),
@@ -168,18 +168,18 @@ const NUMBERS: [(&[Word], Numbers, [Option<i64>; 3]); 34] = [
         [Some(-1), None, Some(1)],
     ),
     (
-        &[Word::Num(-7), Word::Num(2), DIV],
+        &[Postfix::Num(-7), Postfix::Num(2), DIV],
         (Some((-3, -3)), false),
         [Some(-3), Some(-3), Some(-3)],
     ),
-    (&[X, Word::Num(0), DIV], (None, true), [None, None, None]),
+    (&[X, Postfix::Num(0), DIV], (None, true), [None, None, None]),
     (
         &[Y, X, MOD],
         (Some((-1, 2)), false),
         [Some(0), Some(0), Some(2)],
     ),
     (
-        &[Word::Num(-7), Word::Num(2), MOD],
+        &[Postfix::Num(-7), Postfix::Num(2), MOD],
         (Some((-1, -1)), false),
         [Some(-1), Some(-1), Some(-1)],
     ),
@@ -200,37 +200,37 @@ const NUMBERS: [(&[Word], Numbers, [Option<i64>; 3]); 34] = [
         [Some(1), None, Some(1)],
     ),
     (
-        &[X, Y, Word::Num(1), Word::All(List::Sum, 3)],
+        &[X, Y, Postfix::Num(1), Postfix::All(List::Sum, 3)],
         (Some((1, 6)), false),
         [Some(1), Some(3), Some(6)],
     ),
     (
-        &[X, Y, DIV, X, Word::All(List::Sum, 2)],
+        &[X, Y, DIV, X, Postfix::All(List::Sum, 2)],
         (Some((-2, 6)), true),
         [Some(0), None, Some(4)],
     ),
     (
-        &[Word::All(List::Sum, 0)],
+        &[Postfix::All(List::Sum, 0)],
         (Some((0, 0)), false),
         [Some(0), Some(0), Some(0)],
     ),
     (
-        &[X, Y, Word::All(List::Least, 2)],
+        &[X, Y, Postfix::All(List::Least, 2)],
         (Some((-1, 2)), false),
         [Some(-1), Some(0), Some(2)],
     ),
     (
-        &[Word::All(List::Least, 0)],
+        &[Postfix::All(List::Least, 0)],
         (None, true),
         [None, None, None],
     ),
     (
-        &[X, Y, Word::All(List::Greatest, 2)],
+        &[X, Y, Postfix::All(List::Greatest, 2)],
         (Some((1, 3)), false),
         [Some(1), Some(2), Some(3)],
     ),
     (
-        &[X, Y, DIV, X, Word::All(List::Greatest, 2)],
+        &[X, Y, DIV, X, Postfix::All(List::Greatest, 2)],
         (Some((1, 3)), true),
         [Some(1), None, Some(3)],
     ),
@@ -240,52 +240,60 @@ const NUMBERS: [(&[Word], Numbers, [Option<i64>; 3]); 34] = [
         [Some(0), Some(1), Some(1)],
     ),
     (
-        &[X, Y, DIV, Word::Num(1), EQ, TO_INT],
+        &[X, Y, DIV, Postfix::Num(1), EQ, TO_INT],
         (Some((0, 1)), false),
         [Some(0), Some(0), Some(1)],
     ),
     (
-        &[Word::Num(10), X, Y, DIV, Word::Num(30), X, Word::Elem(1, 3)],
+        &[
+            Postfix::Num(10),
+            X,
+            Y,
+            DIV,
+            Postfix::Num(30),
+            X,
+            Postfix::Elem(1, 3),
+        ],
         (Some((-3, 30)), true),
         [Some(10), None, Some(30)],
     ),
     (
-        &[UNDEF, Word::Num(5), X, Word::Elem(0, 2)],
+        &[UNDEF, Postfix::Num(5), X, Postfix::Elem(0, 2)],
         (Some((5, 5)), true),
         [Some(5), None, None],
     ),
     (
         &[
-            Word::Num(1),
-            Word::Num(2),
-            Word::Num(3),
-            Word::Num(4),
-            Word::Num(5),
+            Postfix::Num(1),
+            Postfix::Num(2),
+            Postfix::Num(3),
+            Postfix::Num(4),
+            Postfix::Num(5),
             X,
             B,
             TO_INT,
-            Word::Elem2(1, 0, 2, 5),
+            Postfix::Elem2(1, 0, 2, 5),
         ],
         (Some((1, 4)), true),
         [Some(1), Some(4), None],
     ),
     (
-        &[X, Y, Word::Num(2), Word::Num(2), Word::Count(3)],
+        &[X, Y, Postfix::Num(2), Postfix::Num(2), Postfix::Count(3)],
         (Some((1, 3)), false),
         [Some(1), Some(2), Some(2)],
     ),
     (
-        &[X, Y, DIV, Word::Num(1), Word::Count(1)],
+        &[X, Y, DIV, Postfix::Num(1), Postfix::Count(1)],
         (Some((0, 1)), true),
         [Some(0), None, Some(1)],
     ),
     (
-        &[B, X, Y, DIV, X, Word::IteI],
+        &[B, X, Y, DIV, X, Postfix::IteI],
         (Some((-3, 3)), true),
         [Some(1), None, Some(1)],
     ),
     (
-        &[Word::True, X, UNDEF, Word::IteI],
+        &[Postfix::True, X, UNDEF, Postfix::IteI],
         (Some((1, 3)), false),
         [Some(1), Some(2), Some(3)],
     ),
@@ -308,84 +316,125 @@ fn numbers_of_each_kind(rt: HostRuntime) -> Result<(), Fail> {
     Ok(())
 }
 
-const TRUTHS: [(&[Word], &str, [&str; 3]); 36] = [
-    (&[Word::True], "t", ["t", "t", "t"]),
-    (&[Word::False], "f", ["f", "f", "f"]),
+pub const TRUTHS: [(&[Postfix], &str, [&str; 3]); 36] = [
+    (&[Postfix::True], "t", ["t", "t", "t"]),
+    (&[Postfix::False], "f", ["f", "f", "f"]),
     (&[B], "tf", ["f", "t", "t"]),
     (
-        &[B, X, Word::Num(2), LE, Word::All(List::And, 2)],
+        &[B, X, Postfix::Num(2), LE, Postfix::All(List::And, 2)],
         "tf",
         ["f", "t", "f"],
     ),
-    (&[Word::All(List::And, 0)], "t", ["t", "t", "t"]),
+    (&[Postfix::All(List::And, 0)], "t", ["t", "t", "t"]),
     (
-        &[B, X, Word::Num(2), LE, Word::All(List::Or, 2)],
+        &[B, X, Postfix::Num(2), LE, Postfix::All(List::Or, 2)],
         "tf",
         ["t", "t", "t"],
     ),
     (
-        &[B, Word::False, Word::All(List::Or, 2)],
+        &[B, Postfix::False, Postfix::All(List::Or, 2)],
         "tf",
         ["f", "t", "t"],
     ),
-    (&[Word::All(List::Or, 0)], "f", ["f", "f", "f"]),
-    (&[X, Y, DIV, Word::Num(1), EQ, NOT], "tf", ["t", "t", "f"]),
-    (&[B, Word::True, IFF], "tf", ["f", "t", "t"]),
-    (&[B, Word::False, IMP], "tf", ["t", "f", "f"]),
-    (&[B, Word::True, XOR], "tf", ["t", "f", "f"]),
-    (&[X, Word::Num(2), EQ], "tf", ["f", "t", "f"]),
-    (&[X, Y, DIV, X, Y, DIV, EQ], "tf", ["t", "f", "t"]),
-    (&[Word::Num(2), Word::Num(2), EQ], "t", ["t", "t", "t"]),
-    (&[X, Y, NE], "tf", ["t", "t", "t"]),
-    (&[X, Y, DIV, Word::Num(9), NE], "tf", ["t", "f", "t"]),
-    (&[X, Word::Num(9), NE], "t", ["t", "t", "t"]),
-    (&[Y, X, LT], "tf", ["t", "t", "t"]),
-    (&[X, Y, DIV, Word::Num(9), LT], "tf", ["t", "f", "t"]),
-    (&[X, Word::Num(3), LE], "t", ["t", "t", "t"]),
-    (&[Word::Num(4), X, LE], "f", ["f", "f", "f"]),
+    (&[Postfix::All(List::Or, 0)], "f", ["f", "f", "f"]),
     (
-        &[B, X, Y, DIV, Word::Num(1), EQ, Word::True, Word::IteB],
+        &[X, Y, DIV, Postfix::Num(1), EQ, NOT],
+        "tf",
+        ["t", "t", "f"],
+    ),
+    (&[B, Postfix::True, IFF], "tf", ["f", "t", "t"]),
+    (&[B, Postfix::False, IMP], "tf", ["t", "f", "f"]),
+    (&[B, Postfix::True, XOR], "tf", ["t", "f", "f"]),
+    (&[X, Postfix::Num(2), EQ], "tf", ["f", "t", "f"]),
+    (&[X, Y, DIV, X, Y, DIV, EQ], "tf", ["t", "f", "t"]),
+    (
+        &[Postfix::Num(2), Postfix::Num(2), EQ],
+        "t",
+        ["t", "t", "t"],
+    ),
+    (&[X, Y, NE], "tf", ["t", "t", "t"]),
+    (&[X, Y, DIV, Postfix::Num(9), NE], "tf", ["t", "f", "t"]),
+    (&[X, Postfix::Num(9), NE], "t", ["t", "t", "t"]),
+    (&[Y, X, LT], "tf", ["t", "t", "t"]),
+    (&[X, Y, DIV, Postfix::Num(9), LT], "tf", ["t", "f", "t"]),
+    (&[X, Postfix::Num(3), LE], "t", ["t", "t", "t"]),
+    (&[Postfix::Num(4), X, LE], "f", ["f", "f", "f"]),
+    (
+        &[
+            B,
+            X,
+            Y,
+            DIV,
+            Postfix::Num(1),
+            EQ,
+            Postfix::True,
+            Postfix::IteB,
+        ],
         "tf",
         ["t", "f", "t"],
     ),
     (&[X, IN], "tf", ["f", "t", "t"]),
-    (&[Word::Num(2), IN], "t", ["t", "t", "t"]),
+    (&[Postfix::Num(2), IN], "t", ["t", "t", "t"]),
     (&[X, Y, DIV, IN], "tf", ["f", "f", "f"]),
-    (&[X, Y, Word::All(List::AllDiff, 2)], "tf", ["t", "t", "t"]),
-    (&[X, Word::All(List::AllDiff, 1)], "t", ["t", "t", "t"]),
     (
-        &[X, Y, DIV, Word::All(List::AllDiff, 1)],
+        &[X, Y, Postfix::All(List::AllDiff, 2)],
+        "tf",
+        ["t", "t", "t"],
+    ),
+    (&[X, Postfix::All(List::AllDiff, 1)], "t", ["t", "t", "t"]),
+    (
+        &[X, Y, DIV, Postfix::All(List::AllDiff, 1)],
         "tf",
         ["t", "f", "t"],
     ),
     (
-        &[Word::Num(1), Word::Num(1), Word::All(List::AllDiff, 2)],
+        &[
+            Postfix::Num(1),
+            Postfix::Num(1),
+            Postfix::All(List::AllDiff, 2),
+        ],
         "f",
         ["f", "f", "f"],
     ),
     (
-        &[B, TO_INT, B, TO_INT, B, TO_INT, Word::All(List::AllDiff, 3)],
+        &[
+            B,
+            TO_INT,
+            B,
+            TO_INT,
+            B,
+            TO_INT,
+            Postfix::All(List::AllDiff, 3),
+        ],
         "f",
         ["f", "f", "f"],
     ),
-    (&[X, Y, Word::All(List::Table, 2)], "tf", ["t", "f", "t"]),
+    (&[X, Y, Postfix::All(List::Table, 2)], "tf", ["t", "f", "t"]),
     (
-        &[Word::Num(3), Word::Num(2), Word::All(List::Table, 2)],
+        &[
+            Postfix::Num(3),
+            Postfix::Num(2),
+            Postfix::All(List::Table, 2),
+        ],
         "t",
         ["t", "t", "t"],
     ),
     (
-        &[X, X, Y, DIV, Word::All(List::Table, 2)],
+        &[X, X, Y, DIV, Postfix::All(List::Table, 2)],
         "tf",
         ["t", "f", "f"],
     ),
     (
-        &[Word::Num(3), Word::Num(3), Word::All(List::Table, 2)],
+        &[
+            Postfix::Num(3),
+            Postfix::Num(3),
+            Postfix::All(List::Table, 2),
+        ],
         "f",
         ["f", "f", "f"],
     ),
     (
-        &[Word::Num(1), Word::All(List::Table, 1)],
+        &[Postfix::Num(1), Postfix::All(List::Table, 1)],
         "f",
         ["f", "f", "f"],
     ),
@@ -394,7 +443,7 @@ const TRUTHS: [(&[Word], &str, [&str; 3]); 36] = [
 fn truths_are(
     rt: &impl Abort,
     alloc: Global,
-    words: &[Word],
+    words: &[Postfix],
     want: &str,
     values: [&str; 3],
 ) -> Result<(), AllocError> {
@@ -415,13 +464,13 @@ fn truths_of_each_kind(rt: HostRuntime) -> Result<(), Fail> {
     Ok(())
 }
 
-const UNFIT: [&[Word]; 6] = [
-    &[Word::Var(3)],
-    &[Word::BVar(0)],
-    &[X, Word::True, ADD],
-    &[X, Word::All(List::And, 1)],
-    &[Word::True, Word::True, Word::True, Word::IteI],
-    &[X, Word::True, Word::All(List::Table, 2)],
+const UNFIT: [&[Postfix]; 6] = [
+    &[Postfix::Var(3)],
+    &[Postfix::BVar(0)],
+    &[X, Postfix::True, ADD],
+    &[X, Postfix::All(List::And, 1)],
+    &[Postfix::True, Postfix::True, Postfix::True, Postfix::IteI],
+    &[X, Postfix::True, Postfix::All(List::Table, 2)],
 ];
 
 #[test]
@@ -484,8 +533,8 @@ fn nested(
     let mut words = Vec::new(alloc);
     words.push(X)?;
     for _ in 0..times {
-        words.push(Word::Num(second))?;
-        words.push(Word::All(list, 2))?;
+        words.push(Postfix::Num(second))?;
+        words.push(Postfix::All(list, 2))?;
         words.push(TO_INT)?;
     }
     tree(alloc, &words)
@@ -509,17 +558,17 @@ fn nested_lists_ask_each_part_once(rt: HostRuntime) -> Result<(), Fail> {
 }
 
 /// The numbers from 100 to 168 and one part more are to be distinct.
-fn long(alloc: Global, last: Word) -> Result<Option<Ground>, AllocError> {
+pub fn long(alloc: Global, last: Postfix) -> Result<Option<Ground>, AllocError> {
     let mut words = Vec::new(alloc);
     for number in 100..169i16 {
-        words.push(Word::Num(number))?;
+        words.push(Postfix::Num(number))?;
     }
     words.push(last)?;
-    words.push(Word::All(List::AllDiff, 70))?;
+    words.push(Postfix::All(List::AllDiff, 70))?;
     tree(alloc, &words)
 }
 
-const LAST: [(Word, &str); 3] = [(X, "t"), (Word::Num(100), "f"), (Word::Num(167), "f")];
+const LAST: [(Postfix, &str); 3] = [(X, "t"), (Postfix::Num(100), "f"), (Postfix::Num(167), "f")];
 
 #[test]
 fn parts_of_long_lists_differ(rt: HostRuntime) -> Result<(), Fail> {
@@ -532,10 +581,10 @@ fn parts_of_long_lists_differ(rt: HostRuntime) -> Result<(), Fail> {
 }
 
 // Of 0..10000000 the square is at most 10^14, and the cube 10^21.
-const POWERS: [(&[Word], bool); 3] = [
-    (&[Word::Num(0), X, X, MUL, LT], true),
-    (&[Word::Num(0), X, X, MUL, X, MUL, LT], false),
-    (&[Word::Num(0), X, X, MUL, X, MUL, X, MUL, LT], false),
+const POWERS: [(&[Postfix], bool); 3] = [
+    (&[Postfix::Num(0), X, X, MUL, LT], true),
+    (&[Postfix::Num(0), X, X, MUL, X, MUL, LT], false),
+    (&[Postfix::Num(0), X, X, MUL, X, MUL, X, MUL, LT], false),
 ];
 
 #[test]
@@ -550,7 +599,7 @@ fn powers_are_narrow(rt: HostRuntime) -> Result<(), Fail> {
 // Where the divisor is 0 the comparison is false, and its negation true.
 #[test]
 fn negated_comparison_holds_where_undefined(rt: HostRuntime) -> Result<(), Fail> {
-    let words = [Word::Num(4), X, DIV, Word::Num(2), EQ, NOT];
+    let words = [Postfix::Num(4), X, DIV, Postfix::Num(2), EQ, NOT];
     let g = tree(rt.alloc(), &words)?.expect(&rt, "a tree");
     assert_eq!(rt; truth_text(truth_at(&g, 0, 0, 0)), "t");
     assert_eq!(rt; truth_text(truth_at(&g, 1, 0, 0)), "t");
@@ -571,10 +620,10 @@ fn trees_are_copied_and_measured(rt: HostRuntime) -> Result<(), Fail> {
     let words = [
         X,
         Y,
-        Word::All(List::Table, 2),
+        Postfix::All(List::Table, 2),
         X,
         IN,
-        Word::All(List::And, 2),
+        Postfix::All(List::And, 2),
     ];
     let Some(g) = tree(alloc, &words)? else {
         panic!(rt; "no tree");
