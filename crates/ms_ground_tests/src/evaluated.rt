@@ -116,36 +116,51 @@ fn long_lists_in_long_lists(rt: HostRuntime) -> Result<(), Fail> {
 }
 
 // Boxes of three variables that are to be distinct, with the truth values that may come.
-const BOXES: [([(i64, i64); 3], bool, bool); 8] = [
-    ([(1, 1), (2, 2), (3, 3)], true, false),
-    ([(1, 2), (3, 4), (5, 9)], true, false),
-    ([(1, 2), (1, 2), (1, 2)], false, true),
-    ([(1, 2), (1, 2), (2, 3)], true, true),
-    ([(1, 9), (2, 2), (2, 2)], false, true),
-    ([(1, 3), (1, 3), (1, 3)], true, true),
-    ([(0, 5), (1, 1), (0, 0)], true, true),
-    ([(2, 3), (2, 3), (1, 3)], true, true),
+const BOXES: [(&[(i64, i64)], bool, bool); 8] = [
+    (&[(1, 1), (2, 2), (3, 3)], true, false),
+    (&[(1, 2), (3, 4), (5, 9)], true, false),
+    (&[(1, 2), (1, 2), (1, 2)], false, true),
+    (&[(1, 2), (1, 2), (2, 3)], true, true),
+    (&[(1, 9), (2, 2), (2, 2)], false, true),
+    (&[(1, 3), (1, 3), (1, 3)], true, true),
+    (&[(0, 5), (1, 1), (0, 0)], true, true),
+    (&[(2, 3), (2, 3), (1, 3)], true, true),
 ];
 
-fn box_of(ends: [(i64, i64); 3]) -> Option<[Iv; 3]> {
-    let [x, y, z] = ends;
-    Some([interval(x)?, interval(y)?, interval(z)?])
+/// The intervals of these ends, where each is one.
+fn box_of(alloc: Global, ends: &[(i64, i64)]) -> Result<Vec<Iv>, AllocError> {
+    let mut sets = Vec::new(alloc);
+    for (lo, hi) in ends {
+        if let Some(set) = interval(*lo, *hi) {
+            sets.push(set)?;
+        }
+    }
+    Ok(sets)
 }
 
-fn interval(ends: (i64, i64)) -> Option<Iv> {
-    let (lo, hi) = ends;
+fn interval(lo: i64, hi: i64) -> Option<Iv> {
     if lo <= hi { Iv::narrow(lo, hi) } else { None }
+}
+
+/// The truth values of a constraint on the box of these ends.
+fn truths(
+    rt: &impl Abort,
+    alloc: Global,
+    g: &Ground,
+    ends: &[(i64, i64)],
+) -> Result<(bool, bool), AllocError> {
+    let mut evaluator = Evaluator::new(alloc);
+    let sets = box_of(alloc, ends)?;
+    let h = hull_of(rt, &mut evaluator, g, sets.as_slice())?;
+    Ok((h.may_be_true, h.may_be_false))
 }
 
 #[test]
 fn three_that_differ(rt: HostRuntime) -> Result<(), Fail> {
-    let mut evaluator = Evaluator::new(rt.alloc());
     let symbols = [X, Y, Postfix::Var(2), Postfix::All(List::AllDiff, 3)];
     let g = tree(rt.alloc(), &symbols)?.expect(&rt, "a tree");
     for (ends, yes, no) in BOXES {
-        let sets = box_of(ends).expect(&rt, "a box");
-        let h = hull_of(&rt, &mut evaluator, &g, &sets)?;
-        assert_eq!(rt; (h.may_be_true, h.may_be_false), (yes, no));
+        assert_eq!(rt; truths(&rt, rt.alloc(), &g, ends)?, (yes, no));
     }
     Ok(())
 }
