@@ -1,0 +1,3 @@
+pub mod ListsOf
+pub mod SharedCuts
+pub mod Copying
