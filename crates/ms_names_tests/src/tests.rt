@@ -51,6 +51,28 @@ const VAR_TRUTH: ExprType = ExprType::Plain(Scalar::Truth, Shape::Single, false)
 
 const VAR_INTS: ExprType = ExprType::Plain(Scalar::Number, Shape::Line, false);
 
+/// Names, as the model's text sees them: `n` is declared twice, and `far` by the library too.
+const IN_MODEL: [(&str, Option<Reference>, Option<ExprType>); 10] = [
+    ("n", Some(Reference::Model(0)), Some(INT)),
+    ("x", Some(Reference::Model(1)), Some(VAR_INTS)),
+    ("s", Some(Reference::Model(2)), Some(ExprType::Set)),
+    ("b", Some(Reference::Model(3)), Some(VAR_TRUTH)),
+    ("far", Some(Reference::Model(5)), None),
+    ("walk", Some(Reference::Model(6)), None),
+    ("twice", Some(Reference::Library(0)), None),
+    ("sum", Some(Reference::BuiltIn(BuiltIn::Sum)), None),
+    ("u", None, None),
+    ("y", None, None),
+];
+
+/// And as the library's text sees them.
+const IN_LIBRARY: [(&str, Option<Reference>, Option<ExprType>); 4] = [
+    ("n", Some(Reference::Library(1)), None),
+    ("far", Some(Reference::Library(2)), None),
+    ("sum", Some(Reference::BuiltIn(BuiltIn::Sum)), None),
+    ("x", None, None),
+];
+
 fn read(rt: &impl Abort, alloc: Global, file: u8, text: &str) -> Result<Tree, Fail> {
     let bytes = text.as_bytes();
     assert!(rt; bytes.len() <= 1048576);
@@ -84,47 +106,23 @@ fn value(found: Found<'_>) -> Option<ExprType> {
     }
 }
 
-#[test]
-fn names_of_items_are_found_by_their_first_declaration(rt: HostRuntime) -> Result<(), Fail> {
-    let alloc = rt.alloc();
-    let model = read(&rt, alloc, 0, MODEL)?;
-    let library = read(&rt, alloc, 2, LIBRARY)?;
-    let world = World::new(alloc, model.items.as_slice(), library.items.as_slice())?;
+/// Names of the model, from its own text.
+fn from_the_model(rt: &impl Abort, alloc: Global, world: &World) -> Result<(), Fail> {
     let outer = Scope::Outer;
-    let first = look(alloc, &world, MODEL_PLACE, &outer, "n")?;
-    assert!(rt; first == (Some(Reference::Model(0)), Some(INT)));
-    let array = look(alloc, &world, MODEL_PLACE, &outer, "x")?;
-    assert!(rt; array == (Some(Reference::Model(1)), Some(VAR_INTS)));
-    let set = look(alloc, &world, MODEL_PLACE, &outer, "s")?;
-    assert!(rt; set == (Some(Reference::Model(2)), Some(ExprType::Set)));
-    let truth = look(alloc, &world, MODEL_PLACE, &outer, "b")?;
-    assert!(rt; truth == (Some(Reference::Model(3)), Some(VAR_TRUTH)));
-    let walk = look(alloc, &world, MODEL_PLACE, &outer, "walk")?;
-    assert!(rt; walk == (Some(Reference::Model(6)), None));
-    let sum = look(alloc, &world, MODEL_PLACE, &outer, "sum")?;
-    assert!(rt; sum == (Some(Reference::BuiltIn(BuiltIn::Sum)), None));
-    let nothing = look(alloc, &world, MODEL_PLACE, &outer, "y")?;
-    assert!(rt; nothing == (None, None));
+    for (name, reference, t) in IN_MODEL.iter() {
+        let found = look(alloc, world, MODEL_PLACE, &outer, name)?;
+        assert!(rt; found == (*reference, *t));
+    }
     Ok(())
 }
 
-#[test]
-fn the_library_does_not_see_the_model(rt: HostRuntime) -> Result<(), Fail> {
-    let alloc = rt.alloc();
-    let model = read(&rt, alloc, 0, MODEL)?;
-    let library = read(&rt, alloc, 2, LIBRARY)?;
-    let world = World::new(alloc, model.items.as_slice(), library.items.as_slice())?;
+/// Names from the library's text.
+fn from_the_library(rt: &impl Abort, alloc: Global, world: &World) -> Result<(), Fail> {
     let outer = Scope::Outer;
-    let own = look(alloc, &world, LIBRARY_PLACE, &outer, "n")?;
-    assert!(rt; own == (Some(Reference::Library(1)), None));
-    let hidden = look(alloc, &world, LIBRARY_PLACE, &outer, "x")?;
-    assert!(rt; hidden == (None, None));
-    let built_in = look(alloc, &world, LIBRARY_PLACE, &outer, "sum")?;
-    assert!(rt; built_in == (Some(Reference::BuiltIn(BuiltIn::Sum)), None));
-    let models = look(alloc, &world, MODEL_PLACE, &outer, "far")?;
-    assert!(rt; models == (Some(Reference::Model(5)), None));
-    let librarys = look(alloc, &world, MODEL_PLACE, &outer, "twice")?;
-    assert!(rt; librarys == (Some(Reference::Library(0)), None));
+    for (name, reference, t) in IN_LIBRARY.iter() {
+        let found = look(alloc, world, LIBRARY_PLACE, &outer, name)?;
+        assert!(rt; found == (*reference, *t));
+    }
     let name = word(alloc, "n")?;
     assert!(rt; world.assigned(MODEL_PLACE, &name) == Some((0, INT)));
     assert!(rt; world.assigned(LIBRARY_PLACE, &name).is_none());
@@ -187,12 +185,14 @@ fn inside_generators(
 }
 
 #[test]
-fn names_inside_hide_those_outside(rt: HostRuntime) -> Result<(), Fail> {
+fn names_are_found_where_they_stand(rt: HostRuntime) -> Result<(), Fail> {
     let alloc = rt.alloc();
     let model = read(&rt, alloc, 0, MODEL)?;
     let library = read(&rt, alloc, 2, LIBRARY)?;
     let world = World::new(alloc, model.items.as_slice(), library.items.as_slice())?;
     assert!(rt; model.items.len() == 9);
+    from_the_model(&rt, alloc, &world)?;
+    from_the_library(&rt, alloc, &world)?;
     inside_predicate(&rt, alloc, &world, &model.items[5])?;
     inside_generators(&rt, alloc, &world, &model.items[7])
 }
