@@ -61,7 +61,7 @@ fn read<S: Store>(store: &S, v: u32, n: i64) -> u64 {
     if v as usize >= store.vars() {
         return 0;
     }
-    let ends = store.lo(v).wrapping_add(store.hi(v)) as u64;
+    let ends = store.lo(v).wrapping_add(store.hi(v)).unsigned_abs();
     ends.wrapping_add(store.size(v))
         .wrapping_add(u64::from(store.has(v, n)))
 }

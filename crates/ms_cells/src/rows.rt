@@ -187,7 +187,11 @@ impl<T: Copy> RowCells<T> {
 
 // Places of these lengths from a word on, and the word behind them. So many words that their places could not be numbered
 // are more than there is memory for.
-fn places_behind(alloc: Global, start: usize, lengths: &[u32]) -> Result<(Vec<Place>, usize), AllocError>
+fn places_behind(
+    alloc: Global,
+    start: usize,
+    lengths: &[u32],
+) -> Result<(Vec<Place>, usize), AllocError>
     requires { start < 2 ^ 32 }
     ensures places { IfOk result (λ made. made.0.items ≡ places_from start lengths.now) }
     ensures end { IfOk result (λ made. made.1 ≡ start + sum lengths.now) }

@@ -112,7 +112,10 @@ fn drive<S: Store>(rt: &impl Abort, alloc: Global, store: &mut S) -> Result<(), 
     let mut lists = Lists::new(alloc);
     let mut draws = Draws { state: 20250601 };
     for call in 0..CALLS {
-        assert!(rt; answers_are_equal(alloc, store, &mut lists, &mut draws)?, "call {call}");
+        assert!(rt;
+            answers_are_equal(alloc, store, &mut lists, &mut draws)?,
+            "call {call}"
+        );
         assert!(rt; readers_are_equal(store, &lists), "after call {call}");
     }
     Ok(())

@@ -21,16 +21,34 @@ const FIVE: [i64; 5] = [1, 2, 3, 4, 5];
 fn cuts<S: Store + Drop>(rt: &impl Abort, alloc: Global, mut store: S) -> Result<(), Fail> {
     assert!(rt; calls::grow(&mut store, five(alloc)?)?);
     assert_eq!(rt; store.mark()?.number, 0);
-    assert_eq!(rt; calls::cut(&mut store, 0, Change::AtMost(3))?, Some(Cut::Changed));
+    assert_eq!(rt;
+        calls::cut(&mut store, 0, Change::AtMost(3))?,
+        Some(Cut::Changed)
+    );
     assert!(rt; calls::has_numbers(&store, 0, &[1, 2, 3]));
-    assert_eq!(rt; calls::cut(&mut store, 0, Change::AtLeast(4))?, Some(Cut::Emptied));
+    assert_eq!(rt;
+        calls::cut(&mut store, 0, Change::AtLeast(4))?,
+        Some(Cut::Emptied)
+    );
     assert!(rt; calls::has_numbers(&store, 0, &[1, 2, 3]));
-    assert_eq!(rt; calls::cut(&mut store, 0, Change::OtherThan(4))?, Some(Cut::Kept));
-    assert_eq!(rt; calls::cut(&mut store, 0, Change::OtherThan(2))?, Some(Cut::Changed));
+    assert_eq!(rt;
+        calls::cut(&mut store, 0, Change::OtherThan(4))?,
+        Some(Cut::Kept)
+    );
+    assert_eq!(rt;
+        calls::cut(&mut store, 0, Change::OtherThan(2))?,
+        Some(Cut::Changed)
+    );
     assert!(rt; calls::has_numbers(&store, 0, &[1, 3]));
-    assert_eq!(rt; calls::cut(&mut store, 0, Change::OtherThan(3))?, Some(Cut::Changed));
+    assert_eq!(rt;
+        calls::cut(&mut store, 0, Change::OtherThan(3))?,
+        Some(Cut::Changed)
+    );
     assert!(rt; calls::has_numbers(&store, 0, &[1]));
-    assert_eq!(rt; calls::cut(&mut store, 0, Change::OtherThan(1))?, Some(Cut::Emptied));
+    assert_eq!(rt;
+        calls::cut(&mut store, 0, Change::OtherThan(1))?,
+        Some(Cut::Emptied)
+    );
     assert!(rt; calls::write(&mut store, 0, &truth(alloc)?)?);
     assert!(rt; calls::has_numbers(&store, 0, &[0, 1]));
     assert!(rt; calls::undo(&mut store, 0));
@@ -40,10 +58,17 @@ fn cuts<S: Store + Drop>(rt: &impl Abort, alloc: Global, mut store: S) -> Result
 }
 
 // Variables that come after a mark stay when it ends.
-fn grows_under_a_mark<S: Store + Drop>(rt: &impl Abort, alloc: Global, mut store: S) -> Result<(), Fail> {
+fn grows_under_a_mark<S: Store + Drop>(
+    rt: &impl Abort,
+    alloc: Global,
+    mut store: S,
+) -> Result<(), Fail> {
     assert!(rt; calls::grow(&mut store, five(alloc)?)?);
     assert_eq!(rt; store.mark()?.number, 0);
-    assert_eq!(rt; calls::cut(&mut store, 0, Change::OtherThan(3))?, Some(Cut::Changed));
+    assert_eq!(rt;
+        calls::cut(&mut store, 0, Change::OtherThan(3))?,
+        Some(Cut::Changed)
+    );
     assert!(rt; calls::grow(&mut store, truth(alloc)?)?);
     assert_eq!(rt; store.marks(), 1);
     assert!(rt; calls::has_numbers(&store, 0, &[1, 2, 4, 5]));
@@ -55,12 +80,22 @@ fn grows_under_a_mark<S: Store + Drop>(rt: &impl Abort, alloc: Global, mut store
 }
 
 // The first of two marks ends the second too.
-fn ends_both_marks<S: Store + Drop>(rt: &impl Abort, alloc: Global, mut store: S) -> Result<(), Fail> {
+fn ends_both_marks<S: Store + Drop>(
+    rt: &impl Abort,
+    alloc: Global,
+    mut store: S,
+) -> Result<(), Fail> {
     assert!(rt; calls::grow(&mut store, five(alloc)?)?);
     assert_eq!(rt; store.mark()?.number, 0);
-    assert_eq!(rt; calls::cut(&mut store, 0, Change::AtMost(3))?, Some(Cut::Changed));
+    assert_eq!(rt;
+        calls::cut(&mut store, 0, Change::AtMost(3))?,
+        Some(Cut::Changed)
+    );
     assert_eq!(rt; store.mark()?.number, 1);
-    assert_eq!(rt; calls::cut(&mut store, 0, Change::AtLeast(2))?, Some(Cut::Changed));
+    assert_eq!(rt;
+        calls::cut(&mut store, 0, Change::AtLeast(2))?,
+        Some(Cut::Changed)
+    );
     assert!(rt; calls::has_numbers(&store, 0, &[2, 3]));
     assert!(rt; calls::undo(&mut store, 0));
     assert!(rt; calls::has_numbers(&store, 0, &FIVE));
@@ -77,7 +112,10 @@ fn shrinks_under_a_mark<S: Store + Drop>(
     assert!(rt; calls::grow(&mut store, five(alloc)?)?);
     assert_eq!(rt; store.mark()?.number, 0);
     assert!(rt; calls::grow(&mut store, truth(alloc)?)?);
-    assert_eq!(rt; calls::cut(&mut store, 1, Change::OtherThan(0))?, Some(Cut::Changed));
+    assert_eq!(rt;
+        calls::cut(&mut store, 1, Change::OtherThan(0))?,
+        Some(Cut::Changed)
+    );
     assert!(rt; calls::shrink(&mut store, 1));
     assert!(rt; calls::grow(&mut store, five(alloc)?)?);
     assert!(rt; calls::undo(&mut store, 0));
