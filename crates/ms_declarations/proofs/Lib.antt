@@ -1,0 +1,4 @@
+mod Cycles
+mod Firsts
+mod Numbers
+mod Twices

@@ -1,0 +1,4 @@
+mod Places
+mod Reach
+mod Searches
+mod Steps
