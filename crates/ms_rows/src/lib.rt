@@ -20,4 +20,5 @@ mod rows;
 pub use conversion::{as_known, converts, is_search, known_of, numbers, shaped, truths};
 pub use fault::{TypeFault, settle, why};
 pub use form::{Form, Meaning, Told};
+pub use operands::operand;
 pub use rows::row;

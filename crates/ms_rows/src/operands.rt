@@ -169,7 +169,7 @@ pub(crate) fn uniform(kinds: &[Kind], given: Kind, types: &[ExprType]) -> Option
 }
 
 /// The type of a part; where there is none, the row asks for another number of parts.
-pub(crate) fn operand(index: usize, types: &[ExprType]) -> ExprType
+pub fn operand(index: usize, types: &[ExprType]) -> ExprType
     ensures { result ≡ least.operand index types.now }
 {
     match types.get(index) {
