@@ -14,10 +14,9 @@
 //!
 //! Contracts see a [`Word`] as its bytes, the names of a generator as their list, and a tree
 //! through a view as plain data (`Tree`), which gives all that is written of it; the other types
-//! are plain data. A copy of a tree is one with the same view.
+//! are plain data. `ms_copies`, a crate above, copies trees.
 #![tactic(auto)]
 
-mod copies;
 mod laws;
 mod names;
 mod place;

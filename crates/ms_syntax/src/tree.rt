@@ -1,6 +1,6 @@
 //! Trees.
 
-ghost use Rattle.std.specs.Prelude.{◌≡◌, Some, option_map};
+ghost use Rattle.std.specs.Prelude.{◌≡◌, IfOk, Some, option_map};
 ghost use Rattle.ms_syntax.specs.Tree as tree;
 ghost use Rattle.ms_syntax.specs.Tree.{binder_view, ex_view, generator_view, link_view, maybe_view};
 ghost use Rattle.ms_syntax.specs.Tree.{of_membership, one_link};
@@ -9,9 +9,10 @@ ghost use Rattle.ms_syntax.specs.Grouping.{first_place};
 
 use crate::names::Binders;
 use crate::token::{Place, Word};
+use std::alloc::{AllocError, Global};
 
 /// What stands between two operands.
-#[derive(Clone, Copy, Debug, PartialEq, Eq)]
+#[derive(Clone, Copy, PartialEq, Eq)]
 pub enum Operator {
     /// `<->`
     Equivalent,
@@ -56,14 +57,14 @@ pub enum Operator {
 }
 
 /// What stands before an operand.
-#[derive(Clone, Copy, Debug, PartialEq, Eq)]
+#[derive(Clone, Copy, PartialEq, Eq)]
 pub enum Sign {
     Not,
     Minus,
 }
 
 /// Whether a kind is marked as variable or as a parameter.
-#[derive(Clone, Copy, Debug, PartialEq, Eq)]
+#[derive(Clone, Copy, PartialEq, Eq)]
 pub enum Mode {
     Unmarked,
     Var,
@@ -71,10 +72,22 @@ pub enum Mode {
 }
 
 /// A name that a generator or an enumeration declares, with its place.
-#[derive(Debug, Drop)]
+#[derive(Drop)]
 pub struct Binder {
     pub place: Place,
     pub name: Word,
+}
+
+impl Binder {
+    /// A name with its place once more.
+    pub fn copy(&self, alloc: Global) -> Result<Binder, AllocError>
+        ensures { IfOk result (λ copied. copied ≡ self.now) }
+    {
+        Ok(Binder {
+            place: self.place,
+            name: self.name.copy(alloc)?,
+        })
+    }
 }
 
 /// Expressions. The levels of operators come first, the loosest of them first; each is a first

@@ -1,6 +1,7 @@
 //! The small types: bytes, points, names, words, single tokens and copies of trees.
 
 use ms_base::{Bytes, Name, Point};
+use ms_copies::CopyTree;
 use ms_forms::{decided_form, longest_form, some_reading, spaced_tokens};
 use ms_syntax::{
     Base, Binder, Binders, Declaration, Expr, Generator, Item, Keyword, Kind, Link, Mode, Operator,

@@ -1,6 +1,7 @@
 //! What an expression is at its top, and how many parts it has there.
 
 use super::tokens;
+use ms_copies::CopyTree;
 use ms_parser::{chains_group, one_data, one_expression, one_model, some_answer, statement};
 use ms_syntax::{Expr, Operator};
 use std::test::Fail;

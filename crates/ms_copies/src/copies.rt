@@ -1,122 +1,127 @@
-//! Copies of trees. Contracts see a tree as plain data, and a copy is the same data.
+//! The walk that copies a tree.
 
 ghost use Rattle.std.specs.Prelude.{◌≡◌, IfOk, Ok, map, option_map};
-ghost use Rattle.ms_syntax.specs.Tree.{arm_view, base_view, declaration_view, ex_view};
+ghost use Rattle.ms_syntax.specs.Tree.{Ex, arm_view, base_view, declaration_view, ex_view};
 ghost use Rattle.ms_syntax.specs.Tree.{generator_view, generators_view, index_view, kind_view};
 ghost use Rattle.ms_syntax.specs.Tree.{link_view, note_view, row_view, subscript_view};
 
-use crate::token::Word;
-use crate::tree::{
-    Arm, Base, Binder, Declaration, Expr, Generator, Generators, Index, Kind, Link, Note, Row,
-    Subscript,
+use ms_syntax::{
+    Arm, Base, Declaration, Expr, Generator, Generators, Index, Kind, Link, Note, Row, Subscript,
 };
 use std::alloc::{AllocError, Global};
 
-impl Binder {
-    /// A name with its place once more.
-    pub fn copy(&self, alloc: Global) -> Result<Binder, AllocError>
-        ensures { IfOk result (λ copied. copied ≡ self.now) }
+/// Trees that can be copied.
+pub trait CopyTree {
+    /// What stands for a tree.
+    ghost Seen: { Type 0 };
+    /// What stands for this one.
+    ghost view: { Self → Seen };
+
+    /// The same tree once more: it writes the same tokens at the same places. Only the room that
+    /// its lists have set aside may differ, which no view sees.
+    fn copy(&self, alloc: Global) -> Result<Self, AllocError>
+        ensures { IfOk result (λ copied. view copied ≡ view self.now) };
+}
+
+impl CopyTree for Expr {
+    ghost Seen = { Ex };
+
+    ghost view = { ex_view };
+
+    fn copy(&self, alloc: Global) -> Result<Expr, AllocError>
+        ensures { IfOk result (λ copied. ex_view copied ≡ ex_view self.now) }
     {
-        Ok(Binder {
-            place: self.place,
-            name: self.name.copy(alloc)?,
-        })
+        copy_tree(alloc, self)
     }
 }
 
-impl Expr {
-    /// The same tree once more: it writes the same tokens at the same places. Only the room that
-    /// its lists have set aside may differ, which no view sees.
-    #[cycle(copy)]
-    pub fn copy(&self, alloc: Global) -> Result<Expr, AllocError>
-        ensures { IfOk result (λ copied. ex_view copied ≡ ex_view self.now) }
-    {
-        match self {
-            Expr::Let(place, declarations, closed, body) => {
-                let declarations = copy_declarations(alloc, declarations);
-                let (declarations, body) = both(declarations, copy_box(alloc, body))?;
-                Ok(Expr::Let(*place, declarations, *closed, body))
-            }
-            Expr::Equivalence(first, links) => {
-                let (links, first) = both(copy_links(alloc, links), copy_box(alloc, first))?;
-                Ok(Expr::Equivalence(first, links))
-            }
-            Expr::Implication(first, links) => {
-                let (links, first) = both(copy_links(alloc, links), copy_box(alloc, first))?;
-                Ok(Expr::Implication(first, links))
-            }
-            Expr::Disjunction(first, links) => {
-                let (links, first) = both(copy_links(alloc, links), copy_box(alloc, first))?;
-                Ok(Expr::Disjunction(first, links))
-            }
-            Expr::Conjunction(first, links) => {
-                let (links, first) = both(copy_links(alloc, links), copy_box(alloc, first))?;
-                Ok(Expr::Conjunction(first, links))
-            }
-            Expr::Comparison(first, link) => {
-                let (first, link) = both(copy_box(alloc, first), copy_link_box(alloc, link))?;
-                Ok(Expr::Comparison(first, link))
-            }
-            Expr::Membership(first, link) => {
-                let (first, link) = both(copy_box(alloc, first), copy_link_box(alloc, link))?;
-                Ok(Expr::Membership(first, link))
-            }
-            Expr::Range(first, link) => {
-                let (first, link) = both(copy_box(alloc, first), copy_link_box(alloc, link))?;
-                Ok(Expr::Range(first, link))
-            }
-            Expr::Sum(first, links) => {
-                let (links, first) = both(copy_links(alloc, links), copy_box(alloc, first))?;
-                Ok(Expr::Sum(first, links))
-            }
-            Expr::Product(first, links) => {
-                let (links, first) = both(copy_links(alloc, links), copy_box(alloc, first))?;
-                Ok(Expr::Product(first, links))
-            }
-            Expr::Concatenation(first, links) => {
-                let (links, first) = both(copy_links(alloc, links), copy_box(alloc, first))?;
-                Ok(Expr::Concatenation(first, links))
-            }
-            Expr::Prefix(place, sign, operand) => {
-                Ok(Expr::Prefix(*place, *sign, copy_box(alloc, operand)?))
-            }
-            Expr::Access(place, array, subscripts) => {
-                let subscripts = copy_subscripts(alloc, subscripts);
-                let (subscripts, array) = both(subscripts, copy_box(alloc, array))?;
-                Ok(Expr::Access(*place, array, subscripts))
-            }
-            Expr::Number(place, number) => Ok(Expr::Number(*place, *number)),
-            Expr::Text(place, text) => Ok(Expr::Text(*place, text.copy(alloc)?)),
-            Expr::Truth(place, value) => Ok(Expr::Truth(*place, *value)),
-            Expr::Name(place, name) => Ok(Expr::Name(*place, name.copy(alloc)?)),
-            Expr::Call(place, name, arguments) => {
-                let (name, arguments) = both(name.copy(alloc), copy_exprs(alloc, arguments))?;
-                Ok(Expr::Call(*place, name, arguments))
-            }
-            Expr::GeneratorCall(place, name, generators, body) => {
-                let parts = both(copy_generators(alloc, generators), copy_box(alloc, body));
-                let (name, (generators, body)) = both(name.copy(alloc), parts)?;
-                Ok(Expr::GeneratorCall(*place, name, generators, body))
-            }
-            Expr::Parenthesis(place, inner) => {
-                Ok(Expr::Parenthesis(*place, copy_box(alloc, inner)?))
-            }
-            Expr::Array(place, elements) => {
-                Ok(Expr::Array(*place, copy_exprs(alloc, elements)?))
-            }
-            Expr::Comprehension(place, element, generators) => {
-                let generators = copy_generators(alloc, generators);
-                let (generators, element) = both(generators, copy_box(alloc, element))?;
-                Ok(Expr::Comprehension(*place, element, generators))
-            }
-            Expr::Rows(place, rows) => Ok(Expr::Rows(*place, copy_rows(alloc, rows)?)),
-            Expr::Set(place, elements) => Ok(Expr::Set(*place, copy_exprs(alloc, elements)?)),
-            Expr::If(place, condition, branch, arms, last) => {
-                let arms = both(copy_arms(alloc, arms), copy_box(alloc, last));
-                let first = both(copy_box(alloc, condition), copy_box(alloc, branch));
-                let ((arms, last), (condition, branch)) = both(arms, first)?;
-                Ok(Expr::If(*place, condition, branch, arms, last))
-            }
+#[cycle(copy)]
+fn copy_tree(alloc: Global, tree: &Expr) -> Result<Expr, AllocError>
+    ensures { IfOk result (λ copied. ex_view copied ≡ ex_view tree.now) }
+{
+    match tree {
+        Expr::Let(place, declarations, closed, body) => {
+            let declarations = copy_declarations(alloc, declarations);
+            let (declarations, body) = both(declarations, copy_box(alloc, body))?;
+            Ok(Expr::Let(*place, declarations, *closed, body))
+        }
+        Expr::Equivalence(first, links) => {
+            let (links, first) = both(copy_links(alloc, links), copy_box(alloc, first))?;
+            Ok(Expr::Equivalence(first, links))
+        }
+        Expr::Implication(first, links) => {
+            let (links, first) = both(copy_links(alloc, links), copy_box(alloc, first))?;
+            Ok(Expr::Implication(first, links))
+        }
+        Expr::Disjunction(first, links) => {
+            let (links, first) = both(copy_links(alloc, links), copy_box(alloc, first))?;
+            Ok(Expr::Disjunction(first, links))
+        }
+        Expr::Conjunction(first, links) => {
+            let (links, first) = both(copy_links(alloc, links), copy_box(alloc, first))?;
+            Ok(Expr::Conjunction(first, links))
+        }
+        Expr::Comparison(first, link) => {
+            let (first, link) = both(copy_box(alloc, first), copy_link_box(alloc, link))?;
+            Ok(Expr::Comparison(first, link))
+        }
+        Expr::Membership(first, link) => {
+            let (first, link) = both(copy_box(alloc, first), copy_link_box(alloc, link))?;
+            Ok(Expr::Membership(first, link))
+        }
+        Expr::Range(first, link) => {
+            let (first, link) = both(copy_box(alloc, first), copy_link_box(alloc, link))?;
+            Ok(Expr::Range(first, link))
+        }
+        Expr::Sum(first, links) => {
+            let (links, first) = both(copy_links(alloc, links), copy_box(alloc, first))?;
+            Ok(Expr::Sum(first, links))
+        }
+        Expr::Product(first, links) => {
+            let (links, first) = both(copy_links(alloc, links), copy_box(alloc, first))?;
+            Ok(Expr::Product(first, links))
+        }
+        Expr::Concatenation(first, links) => {
+            let (links, first) = both(copy_links(alloc, links), copy_box(alloc, first))?;
+            Ok(Expr::Concatenation(first, links))
+        }
+        Expr::Prefix(place, sign, operand) => {
+            Ok(Expr::Prefix(*place, *sign, copy_box(alloc, operand)?))
+        }
+        Expr::Access(place, array, subscripts) => {
+            let subscripts = copy_subscripts(alloc, subscripts);
+            let (subscripts, array) = both(subscripts, copy_box(alloc, array))?;
+            Ok(Expr::Access(*place, array, subscripts))
+        }
+        Expr::Number(place, number) => Ok(Expr::Number(*place, *number)),
+        Expr::Text(place, text) => Ok(Expr::Text(*place, text.copy(alloc)?)),
+        Expr::Truth(place, value) => Ok(Expr::Truth(*place, *value)),
+        Expr::Name(place, name) => Ok(Expr::Name(*place, name.copy(alloc)?)),
+        Expr::Call(place, name, arguments) => {
+            let (name, arguments) = both(name.copy(alloc), copy_exprs(alloc, arguments))?;
+            Ok(Expr::Call(*place, name, arguments))
+        }
+        Expr::GeneratorCall(place, name, generators, body) => {
+            let parts = both(copy_generators(alloc, generators), copy_box(alloc, body));
+            let (name, (generators, body)) = both(name.copy(alloc), parts)?;
+            Ok(Expr::GeneratorCall(*place, name, generators, body))
+        }
+        Expr::Parenthesis(place, inner) => {
+            Ok(Expr::Parenthesis(*place, copy_box(alloc, inner)?))
+        }
+        Expr::Array(place, elements) => { Ok(Expr::Array(*place, copy_exprs(alloc, elements)?)) }
+        Expr::Comprehension(place, element, generators) => {
+            let generators = copy_generators(alloc, generators);
+            let (generators, element) = both(generators, copy_box(alloc, element))?;
+            Ok(Expr::Comprehension(*place, element, generators))
+        }
+        Expr::Rows(place, rows) => Ok(Expr::Rows(*place, copy_rows(alloc, rows)?)),
+        Expr::Set(place, elements) => Ok(Expr::Set(*place, copy_exprs(alloc, elements)?)),
+        Expr::If(place, condition, branch, arms, last) => {
+            let arms = both(copy_arms(alloc, arms), copy_box(alloc, last));
+            let first = both(copy_box(alloc, condition), copy_box(alloc, branch));
+            let ((arms, last), (condition, branch)) = both(arms, first)?;
+            Ok(Expr::If(*place, condition, branch, arms, last))
         }
     }
 }
@@ -140,7 +145,7 @@ fn both<A: Drop, B: Drop>(
 fn copy_box(alloc: Global, part: &Box<Expr>) -> Result<Box<Expr>, AllocError>
     ensures { IfOk result (λ copied. ex_view copied.value ≡ ex_view part.now.value) }
 {
-    Ok(Box::new(alloc, part.copy(alloc)?)?)
+    Ok(Box::new(alloc, copy_tree(alloc, part)?)?)
 }
 
 #[cycle(copy)]
@@ -148,7 +153,7 @@ fn copy_maybe(alloc: Global, part: &Option<Expr>) -> Result<Option<Expr>, AllocE
     ensures { IfOk result (λ copied. option_map ex_view copied ≡ option_map ex_view part.now) }
 {
     match part {
-        Some(inner) => Ok(Some(inner.copy(alloc)?)),
+        Some(inner) => Ok(Some(copy_tree(alloc, inner)?)),
         None => Ok(None),
     }
 }
@@ -159,7 +164,7 @@ fn copy_exprs(alloc: Global, parts: &[Expr]) -> Result<Vec<Expr>, AllocError>
 {
     let mut all = Vec::new(alloc);
     for part in parts {
-        all.push(part.copy(alloc)?)?;
+        all.push(copy_tree(alloc, part)?)?;
     }
     Ok(all)
 }
@@ -171,7 +176,7 @@ fn copy_link(alloc: Global, link: &Link) -> Result<Link, AllocError>
     Ok(Link {
         operator: link.operator,
         place: link.place,
-        operand: link.operand.copy(alloc)?,
+        operand: copy_tree(alloc, &link.operand)?,
     })
 }
 
@@ -199,7 +204,10 @@ fn copy_arms(alloc: Global, arms: &[Arm]) -> Result<Vec<Arm>, AllocError>
 {
     let mut all = Vec::new(alloc);
     for arm in arms {
-        let (condition, branch) = both(arm.condition.copy(alloc), arm.branch.copy(alloc))?;
+        let (condition, branch) = both(
+            copy_tree(alloc, &arm.condition),
+            copy_tree(alloc, &arm.branch),
+        )?;
         all.push(Arm { condition, branch })?;
     }
     Ok(all)
@@ -226,7 +234,7 @@ fn copy_subscripts(alloc: Global, subscripts: &[Subscript]) -> Result<Vec<Subscr
     let mut all = Vec::new(alloc);
     for subscript in subscripts {
         let second = copy_maybe(alloc, &subscript.second);
-        let (first, second) = both(subscript.first.copy(alloc), second)?;
+        let (first, second) = both(copy_tree(alloc, &subscript.first), second)?;
         all.push(Subscript { first, second })?;
     }
     Ok(all)
@@ -242,7 +250,10 @@ fn copy_generator_list(
 {
     let mut all = Vec::new(alloc);
     for generator in generators {
-        let (names, set) = both(generator.names.copy(alloc), generator.set.copy(alloc))?;
+        let (names, set) = both(
+            generator.names.copy(alloc),
+            copy_tree(alloc, &generator.set),
+        )?;
         all.push(Generator { names, set })?;
     }
     Ok(all)
@@ -327,8 +338,8 @@ fn copy_base(alloc: Global, base: &Base) -> Result<Base, AllocError>
         Base::String => Ok(Base::String),
         Base::Ann => Ok(Base::Ann),
         Base::SetOfInt => Ok(Base::SetOfInt),
-        Base::SetOf(set) => Ok(Base::SetOf(set.copy(alloc)?)),
-        Base::Within(set) => Ok(Base::Within(set.copy(alloc)?)),
+        Base::SetOf(set) => Ok(Base::SetOf(copy_tree(alloc, set)?)),
+        Base::Within(set) => Ok(Base::Within(copy_tree(alloc, set)?)),
     }
 }
 
@@ -338,7 +349,7 @@ fn copy_index(alloc: Global, index: &Index) -> Result<Index, AllocError>
 {
     match index {
         Index::AnyInt => Ok(Index::AnyInt),
-        Index::Over(set) => Ok(Index::Over(set.copy(alloc)?)),
+        Index::Over(set) => Ok(Index::Over(copy_tree(alloc, set)?)),
     }
 }
 
