@@ -71,7 +71,8 @@ pub fn converts(from: ExprType, to: ExprType) -> bool
     }
 }
 
-pub(crate) fn shape_of(t: ExprType) -> Shape
+/// The shape of the type's values.
+pub fn shape_of(t: ExprType) -> Shape
     ensures { result ≡ spec.shape_of t }
 {
     match t {

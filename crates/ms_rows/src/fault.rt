@@ -19,13 +19,13 @@ use thiserror::Error;
 /// Why a model or an expression is not well typed, and where.
 #[derive(Debug, Drop, Error)]
 pub enum TypeFault {
-    /// A text that includes another one.
+    /// An `include` of a file that may not be included: where it stands.
     #[error("a text is included")]
     Include(Place),
-    /// A name that is declared twice: the later place, and the earlier one.
+    /// A name that is declared twice: the earlier place, and the later one.
     #[error("a name is declared twice")]
     Twice(Place, Place),
-    /// A model without a solve item, or with several.
+    /// A model without a solve item. A second one is `Twice`.
     #[error("no solve item")]
     NoSolve,
     /// A declaration that depends on itself.

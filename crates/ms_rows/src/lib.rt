@@ -17,7 +17,7 @@ mod operands;
 mod operators;
 mod rows;
 
-pub use conversion::{as_known, converts, is_search, known_of, numbers, shaped, truths};
+pub use conversion::{as_known, converts, is_search, known_of, numbers, shape_of, shaped, truths};
 pub use fault::{TypeFault, settle, why};
 pub use form::{Form, Meaning, Told};
 pub use operands::operand;
