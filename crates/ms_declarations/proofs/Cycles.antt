@@ -15,7 +15,7 @@ use Rattle.ms_syntax.specs.Tree.{Names, It, index_view, indices_of, item_view}
 use Rattle.ms_graph.specs.Graph.{Edges, HasEdge, IsOnCycle, LeadToNodes, Leads, TellsCycles, edge, ending, onward}
 use Rattle.ms_declarations.specs.Numbering.{number_of}
 use Rattle.ms_declarations.specs.Declaring.{declared_by, names_by, names_of}
-use Rattle.ms_declarations.specs.Uses.{Words, uses}
+use Rattle.ms_free_names.specs.Uses.{Words, uses}
 use Rattle.ms_declarations.specs.Depends.{DependsOn, FirstCycle, HasNoCycle, In, Saying, UsesName, directly, is_annotation, is_single, is_value, restrained, says, sayings, through}
 use Rattle.ms_declarations.specs.Drawing.{AreValues, TellsCycle, drawn, drawn_at, drawn_one, first_marked, marked, numbers, says_with}
 use Rattle.ms_declarations.proofs.Numbers.{Test, other, same, test}

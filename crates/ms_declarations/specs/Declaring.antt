@@ -7,6 +7,7 @@ use Rattle.ms_syntax.specs.declared.token.Place.{Place}
 use Rattle.ms_syntax.specs.Tree as x
 use Rattle.ms_syntax.specs.Tree.{Names, Params, Ex, Maybe, Exs, Links, Arms, Rows, Subscripts, Gens, Decls, Decl, Kd, Bs, Indices, It, Gl}
 use Rattle.ms_built_ins.specs.BuiltIns.{built_in}
+pub use Rattle.ms_free_names.specs.Uses.{declared_by}
 
 -- a name with its place, and what its own list declares before it
 pub record Declared : Type 0 where
@@ -18,9 +19,6 @@ pub record Declared : Type 0 where
 abbrev pub listed : Names → Names → List Declared
 listed before [] = []
 listed before (n ∷ ns) = record { before = before; place = n.0; name = n.1 } ∷ listed (before ++ n ∷ []) ns
-
-abbrev pub declared_by : Decl → Place × List ℕ
-declared_by (x.declare p k w ns v) = (p, w)
 
 -- ---- inside expressions, in the order of the text: the locals of each `let` are a list, and the names of all
 -- generators of one comprehension are one

@@ -8,7 +8,7 @@ use Rattle.ms_syntax.specs.declared.tree.Mode.TheVariants as m
 use Rattle.ms_syntax.specs.Tree as x
 use Rattle.ms_syntax.specs.Tree.{Names, It, Kd, Bs, Indices}
 use Rattle.ms_declarations.specs.Declaring.{declared_by}
-use Rattle.ms_declarations.specs.Uses.{Words, parameters, uses, uses_decl, uses_kind, uses_params}
+use Rattle.ms_free_names.specs.Uses.{Words, parameters, uses, uses_decl, uses_kind, uses_params}
 
 abbrev pub In : {A : Type 0} → A → List A → Type 0
 In y [] = ⊥

@@ -8,7 +8,7 @@ use Rattle.ms_syntax.specs.Tree.{Names, It}
 use Rattle.ms_graph.specs.Graph.{Edges}
 use Rattle.ms_declarations.specs.Numbering.{number_of}
 use Rattle.ms_declarations.specs.Declaring.{declared_by}
-use Rattle.ms_declarations.specs.Uses.{Words, parameters, uses, uses_decl, uses_kind, uses_params}
+use Rattle.ms_free_names.specs.Uses.{Words, parameters, uses, uses_decl, uses_kind, uses_params}
 use Rattle.ms_declarations.specs.Depends.{DependsOn, FirstCycle, HasNoCycle, Saying, is_value}
 
 -- the numbers of some words that are names

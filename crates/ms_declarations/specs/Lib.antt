@@ -5,5 +5,3 @@ pub mod First
 pub mod Include
 pub mod Numbering
 pub mod Repeats
-pub mod Used
-pub mod Uses

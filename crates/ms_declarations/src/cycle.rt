@@ -12,7 +12,7 @@ ghost use Rattle.ms_declarations.specs.Drawing.{numbers, says_with, TellsCycle};
 ghost use Rattle.ms_declarations.specs.Numbering.{number_of};
 
 use crate::names::NameList;
-use crate::uses::Uses;
+use ms_free_names::Uses;
 use ms_graph::Graph;
 use ms_syntax::{Base, Index, Item, Kind, Mode, Place, Word};
 use std::alloc::{AllocError, Global};

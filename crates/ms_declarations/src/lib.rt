@@ -5,8 +5,8 @@
 //! only where memory is wanting. `specs/First` has what is the first fault ([`one_first_fault`]:
 //! there is one at most). Below it, `specs/Include` has the files that may be included;
 //! `specs/Declaring` each name that a text declares, in its order, with what its own list declares
-//! before it, and the first one that clashes; `specs/Uses` the names that an expression uses and
-//! does not bind; `specs/Depends` what an item says of a name, dependence, and the first name that
+//! before it, and the first one that clashes; `specs/Depends` what an item says of a name (by the
+//! names that it uses and does not bind, of `ms_free_names`), dependence, and the first name that
 //! depends on itself.
 //!
 //! The other files of `specs/` have what the code finds part by part, and no contract of a public
@@ -20,6 +20,5 @@ mod items;
 mod names;
 mod stop;
 mod twice;
-mod uses;
 
 pub use fault::{DeclarationFault, declaration_fault, one_first_fault};

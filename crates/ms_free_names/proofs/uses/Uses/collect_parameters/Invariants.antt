@@ -1,7 +1,7 @@
 use Rattle.std.proofs.Common.{◌≡◌, ◌++◌, drop, map}
 use Rattle.ms_syntax.specs.Tree.{parameter_view}
-use Rattle.ms_declarations.specs.Uses.{parameters, uses_params}
-use Rattle.ms_declarations.proofs.uses.Uses.collect_parameters.Given as goal
+use Rattle.ms_free_names.specs.Uses.{parameters, uses_params}
+use Rattle.ms_free_names.proofs.uses.Uses.collect_parameters.Given as goal
 
 abbrev pub invariant-loop-parameter : goal.invariant-loop-parameter
 invariant-loop-parameter l = record {

@@ -1,5 +1,5 @@
 -- What is kept while the names that a text uses are found.
-use Rattle.ms_declarations.specs.Uses.{Words}
+use Rattle.ms_free_names.specs.Uses.{Words}
 
 -- the names that are bound around, and those that were used where they are not
 pub record Used : Type 0 where

@@ -1,7 +1,7 @@
 use Rattle.std.proofs.Common.{◌≡◌, ◌++◌, drop, map}
 use Rattle.ms_syntax.specs.Tree.{arm_view, arms_of, declaration_view, decls_of, exs_view, gens_view, index_view, indices_of, links_view, row_view, rows_of, subscripts_view}
-use Rattle.ms_declarations.specs.Uses.{generated, locals, uses_arms, uses_exs, uses_gens, uses_indices, uses_links, uses_locals, uses_rows, uses_subscripts}
-use Rattle.ms_declarations.proofs.uses.Uses.+uses.Given as goal
+use Rattle.ms_free_names.specs.Uses.{generated, locals, uses_arms, uses_exs, uses_gens, uses_indices, uses_links, uses_locals, uses_rows, uses_subscripts}
+use Rattle.ms_free_names.proofs.uses.Uses.+uses.Given as goal
 
 abbrev pub invariant-collect_all-loop-part : goal.invariant-collect_all-loop-part
 invariant-collect_all-loop-part l = record {

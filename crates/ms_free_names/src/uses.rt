@@ -6,10 +6,11 @@ ghost use Rattle.ms_syntax.specs.Tree.{ex_view, exs_view, gens_view, generators_
 ghost use Rattle.ms_syntax.specs.Tree.{index_view, indices_of, kind_view, links_view};
 ghost use Rattle.ms_syntax.specs.Tree.{maybe_view, names_view, parameter_view, row_view};
 ghost use Rattle.ms_syntax.specs.Tree.{rows_of, subscripts_view};
-ghost use Rattle.ms_declarations.specs.Used.{Used};
-ghost use Rattle.ms_declarations.specs.Uses as spec;
-ghost use Rattle.ms_declarations.specs.Uses.{generated, locals, names_alone};
+ghost use Rattle.ms_free_names.specs.Used.{Used};
+ghost use Rattle.ms_free_names.specs.Uses as spec;
+ghost use Rattle.ms_free_names.specs.Uses.{generated, locals, names_alone};
 
+use crate::bound::Bound;
 use ms_syntax::{
     Arm, Base, Binder, Declaration, Expr, Generator, Generators, Index, Kind, Link, Parameter, Row,
     Subscript, Word,
@@ -20,16 +21,16 @@ use std::marker::Model;
 /// The names that are bound around an expression, and those that were used where they are not.
 #[derive(Drop)]
 pub struct Uses {
-    bound: Vec<Word>,
+    bound: Bound,
     found: Vec<Word>,
 }
 
 impl Model for Uses {
-    ghost use Rattle.ms_declarations.specs.Used.{Used};
+    ghost use Rattle.ms_free_names.specs.Used.{Used};
 
     ghost Value = { Used };
 
-    ghost view = { λ u. record { bound = u.bound.items; found = u.found.items } };
+    ghost view = { λ u. record { bound = u.bound; found = u.found.items } };
 }
 
 impl Uses {
@@ -39,7 +40,7 @@ impl Uses {
         ensures found { result.found ≡ [] }
     {
         Uses {
-            bound: Vec::new(alloc),
+            bound: Bound::new(alloc),
             found: Vec::new(alloc),
         }
     }
@@ -64,12 +65,11 @@ impl Uses {
         Ok(())
     }
 
-    pub fn bind(&mut self, alloc: Global, name: &Word) -> Result<(), AllocError>
+    fn bind(&mut self, alloc: Global, name: &Word) -> Result<(), AllocError>
         ensures bound { IfOk result (λ _. self.new.bound ≡ self.old.bound ++ name.now ∷ []) }
         ensures found { IfOk result (λ _. self.new.found ≡ self.old.found) }
     {
-        self.bound.push(name.copy(alloc)?)?;
-        Ok(())
+        self.bound.push(alloc, name)
     }
 
     fn bind_all(&mut self, alloc: Global, names: &[Binder]) -> Result<(), AllocError>

@@ -1,15 +1,18 @@
--- What a text names, and what its names stand for.
-use Rattle.std.specs.Prelude.{◌≡◌, ℕ, List, [], ◌∷◌, ◌++◌, Bool, true, false, ◌||◌, if◌then◌else◌, map}
+-- The names that an expression uses and does not bind.
+use Rattle.std.specs.Prelude.{ℕ, List, [], ◌∷◌, ◌++◌, Bool, if◌then◌else◌, map}
 use Rattle.std.specs.List.{list_any}
 use Rattle.std.specs.Str.{bytes_eq}
 use Rattle.ms_syntax.specs.declared.token.Place.{Place}
 use Rattle.ms_syntax.specs.Tree as x
 use Rattle.ms_syntax.specs.Tree.{Names, Params, Ex, Maybe, Exs, Links, Arms, Rows, Subscripts, Gens, Decls, Decl, Kd, Bs, Indices, It, Gl}
-use Rattle.ms_declarations.specs.Declaring.{declared_by}
 
 -- names alone
 abbrev pub Words : Type 0
 Words = List (List ℕ)
+
+-- what a declaration declares
+abbrev pub declared_by : Decl → Place × List ℕ
+declared_by (x.declare p k w ns v) = (p, w)
 
 abbrev pub names_alone : Names → Words
 names_alone ns = map (λ n. n.1) ns

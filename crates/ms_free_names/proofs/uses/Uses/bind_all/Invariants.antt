@@ -1,7 +1,7 @@
 use Rattle.std.proofs.Common.{◌≡◌, ◌++◌, drop}
 use Rattle.ms_syntax.specs.Tree.{names_view}
-use Rattle.ms_declarations.specs.Uses.{names_alone}
-use Rattle.ms_declarations.proofs.uses.Uses.bind_all.Given as goal
+use Rattle.ms_free_names.specs.Uses.{names_alone}
+use Rattle.ms_free_names.proofs.uses.Uses.bind_all.Given as goal
 
 abbrev pub invariant-loop-binder : goal.invariant-loop-binder
 invariant-loop-binder l = record {
