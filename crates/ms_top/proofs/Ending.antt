@@ -1,19 +1,18 @@
 -- What a status says of the bytes and of what was written, and what becomes of it when it is reported.
-use Rattle.std.proofs.Common.{◌≡◌, ℕ, ◌≤◌, List, [], ◌∷◌, ◌++◌, length, get_or, Option, Some, None, refl, sym, ap, ◌∙◌, subst, arith, inl, inr}
+use Rattle.std.proofs.Common.{◌≡◌, ℕ, ◌≤◌, List, [], ◌∷◌, length, get_or, Option, None, refl, sym, ap, ◌∙◌, subst, arith, inl, inr}
 use Rattle.std.specs.Prelude.{ℤ, ◌⊎◌, String, string_bytes}
 use Rattle.std.specs.declared.alloc.Global.{Global}
 use Rattle.std.proofs.lemmas.Int.{ints}
 use Rattle.ms_base.specs.declared.run.Closing.{Closing}
 use Rattle.ms_base.specs.declared.run.Closing.TheVariants as closing
-use Rattle.ms_base.specs.declared.run.Limit.{Limit}
 use Rattle.ms_io.specs.Sink.{Gains}
 use Rattle.ms_top.specs.declared.plain.PlainModel.{PlainModel}
 use Rattle.ms_top.specs.declared.status.Status.{Status}
 use Rattle.ms_top.specs.declared.status.Status.TheVariants.{Done, Usage, ReadFault, Refused, WriteFault, NoMemory}
 use Rattle.ms_top.specs.declared.status.Fault.{Fault}
-use Rattle.ms_top.specs.Answer.{Answers, Exactly, HasLeast, HasNone, IsRun, Remains, Runs, SaysName}
+use Rattle.ms_top.specs.Answer.{Answers, Exactly, HasLeast, HasNone, IsRun, Remains, SaysName}
 use Rattle.ms_top.specs.Faults.{IsAccepted, IsFaulty}
-use Rattle.ms_top.specs.Solution.{IsSolution, IsLeast, HasNoSolution, Precedes}
+use Rattle.ms_top.specs.Solution.{IsLeast, HasNoSolution, Precedes}
 use Rattle.ms_top.specs.Text.{solution_text, unsatisfiable_text}
 use Rattle.ms_top.specs.Words.{AsksFor, model_name}
 

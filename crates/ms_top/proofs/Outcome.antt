@@ -5,15 +5,18 @@ use Rattle.std.specs.Prelude.{◌⊎◌}
 use Rattle.ms_syntax.specs.declared.token.LexKind.{LexKind}
 use Rattle.ms_syntax.specs.declared.token.Place.{Place}
 use Rattle.ms_syntax.specs.declared.token.Spanned.{Spanned}
-use Rattle.ms_syntax.specs.Tree.{Items}
+use Rattle.ms_syntax.specs.Tree.{It, Items}
 use Rattle.ms_syntax.specs.Grammar.{Tokens, WritesTree, IsShallow, SyntaxAt, DeepAt}
 use Rattle.ms_syntax.specs.OneAnswer.{OneAnswer}
 use Rattle.ms_syntax.specs.Cut.{HasTokens, HasFault, place_behind}
+use Rattle.ms_rows.specs.declared.fault.TypeFault.{TypeFault}
+use Rattle.ms_types.specs.Faults as types
 use Rattle.ms_top.specs.declared.plain.PlainModel.{PlainModel}
 use Rattle.ms_top.specs.declared.status.Fault.{Fault}
-use Rattle.ms_top.specs.declared.status.Fault.TheVariants.{LongFile, Lex, Syntax, Deep, Form}
+use Rattle.ms_top.specs.declared.status.Fault.TheVariants.{LongFile, Lex, Syntax, Deep, Typing, Form}
 use Rattle.ms_lexer.specs.Places.{IsTokenPlace, byte_of}
-use Rattle.ms_top.specs.Plain.{HasTree, IsPlain, plain_of}
+use Rattle.ms_top.specs.Plain.{IsPlain}
+use Rattle.ms_top.specs.Typing.{HasTree, HasTypeFault, IsWellTyped, library}
 use Rattle.ms_top.specs.Faults.{HasLexFault, IsAccepted, IsFaulty, IsLong, IsShort}
 
 -- ---- stages
@@ -46,7 +49,7 @@ one_behind first second one two x c d (inl (f, p, e)) (inr (z, q, s)) = absurd (
 one_behind first second one two x c d (inr (y, p, r)) (inl (g, q, h)) = absurd (apart g y _ _ refl refl (one x (failed g) (made y) q p))
 one_behind first second one two x c d (inr (y, p, r)) (inr (z, q, s)) = two z c d (subst (λ v. second v c) (same_value y z _ _ refl refl (one x (made y) (made z) p q)) r) s
 
--- ---- what is known of tokens and trees
+-- ---- what is known of tokens, trees and types
 
 pub record Laws : Type 0 where
   pub one_list : (file : ℕ) (bytes : List ℕ) (ts us : List Spanned) → HasTokens file bytes ts → HasTokens file bytes us → ts ≡ us
@@ -54,6 +57,8 @@ pub record Laws : Type 0 where
   pub one_fault : (bytes : List ℕ) (kind other : LexKind) (k j : ℕ) → HasFault bytes kind k → HasFault bytes other j → (kind ≡ other) × (k ≡ j)
   pub one_answer : OneAnswer WritesTree
   pub one_model : (ts : Tokens) (x y : Items) → WritesTree x ts → WritesTree y ts → IsShallow ts → x ≡ y
+  pub one_type_fault : (model library : List It) (f g : TypeFault) → types.HasFault model library f → types.HasFault model library g → f ≡ g
+  pub not_ill_typed : (model library : List It) (f : TypeFault) → types.IsAccepted model library → types.HasFault model library f → ⊥
 
 -- ---- the stages
 
@@ -105,6 +110,16 @@ one_parsed laws bytes ts c d (inr (inr (x, t, e))) (inl (q, k, g, b, h)) = absur
 one_parsed laws bytes ts c d (inr (inr (x, t, e))) (inr (inl (q, k, g, b, h))) = absurd (laws.one_answer.not_deep ts k t.1 g)
 one_parsed laws bytes ts c d (inr (inr (x, t, e))) (inr (inr (y, u, h))) = e ∙ ap made (laws.one_model ts x y t.0 u.0 t.1) ∙ sym h
 
+-- the types
+abbrev typed : Items → Outcome Items → Type 0
+typed tree c = ((f : TypeFault) × HasTypeFault tree f × (c ≡ failed (Typing f))) ⊎ (IsWellTyped tree × (c ≡ made tree))
+
+one_typed : Laws → IsOne typed
+one_typed laws tree c d (inl (f, p, e)) (inl (g, q, h)) = e ∙ ap (λ v. failed (Typing v)) (laws.one_type_fault tree.0 library f g p q) ∙ sym h
+one_typed laws tree c d (inl (f, p, e)) (inr (w, h)) = absurd (laws.not_ill_typed tree.0 library f w p)
+one_typed laws tree c d (inr (v, e)) (inl (g, q, h)) = absurd (laws.not_ill_typed tree.0 library g v q)
+one_typed laws tree c d (inr (v, e)) (inr (w, h)) = e ∙ sym h
+
 -- the model of the plain form
 abbrev formed : Items → Outcome PlainModel → Type 0
 formed tree c = (((m : PlainModel) → IsPlain m tree → ⊥) × (c ≡ failed (Form 0))) ⊎ ((m : PlainModel) × IsPlain m tree × (c ≡ made m))
@@ -120,14 +135,18 @@ one_formed tree c d (inr (m, p, e)) (inr (n, q, h)) = e ∙ ap made (one_plain t
 
 -- ---- all stages
 
+abbrev judged : Items → Outcome PlainModel → Type 0
+judged = behind typed formed
+
 abbrev read : List ℕ → Outcome PlainModel → Type 0
-read bytes = behind lexed (behind (parsed bytes) formed) bytes
+read bytes = behind lexed (behind (parsed bytes) judged) bytes
 
 abbrev outcome : List ℕ → Outcome PlainModel → Type 0
 outcome = behind sized read
 
 one_read : Laws → IsOne read
-one_read laws bytes = one_behind lexed (behind (parsed bytes) formed) (one_lexed laws) (one_behind (parsed bytes) formed (one_parsed laws bytes) one_formed) bytes
+one_read laws bytes =
+    one_behind lexed (behind (parsed bytes) judged) (one_lexed laws) (one_behind (parsed bytes) judged (one_parsed laws bytes) (one_behind typed formed (one_typed laws) one_formed)) bytes
 
 one : Laws → IsOne outcome
 one laws = one_behind sized read one_sized (one_read laws)
@@ -137,7 +156,7 @@ one laws = one_behind sized read one_sized (one_read laws)
 short : (bytes : List ℕ) (c : Outcome PlainModel) → IsShort bytes → read bytes c → outcome bytes c
 short bytes c s h = inr (bytes, inr (s, refl), h)
 
-treed : (bytes : List ℕ) (ts : List Spanned) (tree : Items) (c : Outcome PlainModel) → HasTokens 0 bytes ts → HasTree ts tree → formed tree c → read bytes c
+treed : (bytes : List ℕ) (ts : List Spanned) (tree : Items) (c : Outcome PlainModel) → HasTokens 0 bytes ts → HasTree ts tree → judged tree c → read bytes c
 treed bytes ts tree c a t h = inr (ts, inr (ts, a, refl), inr (tree, inr (inr (tree, t, refl)), h))
 
 fault_outcome : (bytes : List ℕ) (fault : Fault) → IsFaulty bytes fault → outcome bytes (failed fault)
@@ -145,10 +164,11 @@ fault_outcome bytes (LongFile file) (e, l) = inl (LongFile 0, inl (l, refl), ap 
 fault_outcome bytes (Lex place kind) (s, h) = short bytes _ s (inl (Lex place kind, inl (place, kind, h, refl), refl))
 fault_outcome bytes (Syntax place) (s, (ts, k, a, f, p)) = short bytes _ s (inr (ts, inr (ts, a, refl), inl (Syntax place, inl (place, k, f, p, refl), refl)))
 fault_outcome bytes (Deep place) (s, (ts, k, a, f, p)) = short bytes _ s (inr (ts, inr (ts, a, refl), inl (Deep place, inr (inl (place, k, f, p, refl)), refl)))
-fault_outcome bytes (Form file) (e, s, (ts, tree, a, t, none)) = short bytes _ s (treed bytes ts tree _ a t (inl (none, ap (λ n. failed (Form n)) e)))
+fault_outcome bytes (Typing fault) (s, (tree, (ts, a, t), f)) = short bytes _ s (treed bytes ts tree _ a t (inl (Typing fault, inl (fault, f, refl), refl)))
+fault_outcome bytes (Form file) (e, s, (tree, (ts, a, t), w, none)) = short bytes _ s (treed bytes ts tree _ a t (inr (tree, inr (w, refl), inl (none, ap (λ n. failed (Form n)) e))))
 
 model_outcome : (bytes : List ℕ) (m : PlainModel) → IsAccepted bytes m → outcome bytes (made m)
-model_outcome bytes m (s, (ts, tree, a, t, p)) = short bytes _ s (treed bytes ts tree _ a t (inr (m, p, refl)))
+model_outcome bytes m (s, (tree, (ts, a, t), w, p)) = short bytes _ s (treed bytes ts tree _ a t (inr (tree, inr (w, refl), inr (m, p, refl))))
 
 -- ---- one outcome
 

@@ -1,8 +1,7 @@
 -- What the program answers for the bytes of a model.
-use Rattle.std.specs.Prelude.{◌≡◌, ℕ, ℤ, List, [], take, ◌⊎◌, Option, None}
+use Rattle.std.specs.Prelude.{◌≡◌, ℕ, ℤ, List, take, ◌⊎◌, Option, None}
 use Rattle.ms_base.specs.declared.run.Closing.{Closing}
 use Rattle.ms_base.specs.declared.run.Closing.TheVariants.{Plain, Unsatisfiable}
-use Rattle.ms_base.specs.declared.run.Limit.{Limit}
 use Rattle.ms_io.specs.Sink.{Gains}
 use Rattle.ms_top.specs.declared.plain.PlainModel.{PlainModel}
 use Rattle.ms_top.specs.declared.status.Status.{Status}

@@ -7,4 +7,5 @@ pub mod Refusal
 pub mod Search
 pub mod Solution
 pub mod Text
+pub mod Typing
 pub mod Words

@@ -3,7 +3,6 @@
 use Rattle.std.specs.Prelude.{◌≡◌, ℕ, List, [], ◌∷◌, length, position, Option, Some, None, option_map, IsTrue, is_some, Bool, true, false, not, ◌&&◌, ◌==◌, ◌-◌, take, slice_get, if◌then◌else◌, nat_le, nat_lt}
 use Rattle.std.specs.List.{list_all, list_any}
 use Rattle.std.specs.Str.{bytes_eq}
-use Rattle.ms_syntax.specs.declared.token.Spanned.{Spanned}
 use Rattle.ms_syntax.specs.declared.tree.Operator.{Operator}
 use Rattle.ms_syntax.specs.declared.tree.Operator.TheVariants as o
 use Rattle.ms_syntax.specs.declared.tree.Sign.TheVariants as sign
@@ -11,8 +10,6 @@ use Rattle.ms_syntax.specs.declared.tree.Mode.{Mode}
 use Rattle.ms_syntax.specs.declared.tree.Mode.TheVariants as mode
 use Rattle.ms_syntax.specs.Tree as x
 use Rattle.ms_syntax.specs.Tree.{Ex, Maybe, Links, Indices, Bs, Kd, Notes, Decl, Gl, It, Items, of_sum, of_comparison, of_range}
-use Rattle.ms_syntax.specs.Grammar.{WritesTree, IsShallow}
-use Rattle.ms_syntax.specs.Cut.{HasTokens}
 use Rattle.ms_top.specs.declared.plain.Number.{Number}
 use Rattle.ms_top.specs.declared.plain.PlainDeclaration.{PlainDeclaration}
 use Rattle.ms_top.specs.declared.plain.Term.{Term}
@@ -22,6 +19,7 @@ use Rattle.ms_top.specs.declared.plain.Relation.{Relation}
 use Rattle.ms_top.specs.declared.plain.Relation.TheVariants as relation
 use Rattle.ms_top.specs.declared.plain.Comparison.{Comparison}
 use Rattle.ms_top.specs.declared.plain.PlainModel.{PlainModel}
+use Rattle.ms_top.specs.Typing.{IsTextOf, IsWellTyped}
 
 -- ---- what a part of a tree stands for, where it is of the form
 
@@ -200,10 +198,6 @@ is_small m =
 abbrev pub IsPlain : PlainModel → Items → Type 0
 IsPlain m tree = (plain_of tree ≡ Some m) × IsTrue (is_small m)
 
--- the tokens are those of the tree, which the grammar accepts
-abbrev pub HasTree : List Spanned → Items → Type 0
-HasTree ts tree = WritesTree tree ts × IsShallow ts
-
--- the bytes of a model file are a text of the plain form, that of this model
+-- the bytes of a model file are a text of the plain form, that of this model, and well typed
 abbrev pub IsPlainText : PlainModel → List ℕ → Type 0
-IsPlainText m bytes = (ts : List Spanned) × (tree : Items) × HasTokens 0 bytes ts × HasTree ts tree × IsPlain m tree
+IsPlainText m bytes = (tree : Items) × IsTextOf tree bytes × IsWellTyped tree × IsPlain m tree

@@ -1,15 +1,18 @@
 //! From the bytes of a file to the model that they are a text of, or the status of a run that has none.
 
 ghost use Rattle.std.specs.Prelude.{◌≡◌, ◌≢◌, ◌<◌, ◌⊎◌, ◌++◌, ◌∷◌, [], ℕ, List, IsTrue, IfOk};
-ghost use Rattle.std.specs.Prelude.{IfErr, MatchResult, length, Err};
+ghost use Rattle.std.specs.Prelude.{IfErr, IsOk, MatchResult, length, Err};
 ghost use Rattle.ms_io.specs.Files.{HasFile, Rose};
 ghost use Rattle.ms_lexer.specs.Reading.{FaultIs, IsAmong};
 ghost use Rattle.ms_syntax.specs.Cut.{HasTokens, HasFault};
 ghost use Rattle.ms_syntax.specs.Tree.{tree_view};
 ghost use Rattle.ms_top.specs.Faults.{IsAccepted, IsShort};
 ghost use Rattle.ms_top.specs.Plain as plain;
-ghost use Rattle.ms_top.specs.Plain.{HasTree, IsPlain};
+ghost use Rattle.ms_top.specs.Plain.{IsPlain};
+ghost use Rattle.ms_top.specs.Refusal as refusal;
 ghost use Rattle.ms_top.specs.Refusal.{ParseFaultIs, Refuses, RefusesFile, RefusesTree};
+ghost use Rattle.ms_top.specs.Typing as typing;
+ghost use Rattle.ms_top.specs.Typing.{HasTree, IsWellTyped};
 ghost use Rattle.ms_top.specs.Words.{AsksFor, IsMissing};
 
 use crate::form::{Unread, plain_model};
@@ -21,10 +24,14 @@ use ms_io::{FileFault, Files};
 use ms_lexer::{LexFault, place_of, token_place, tokens};
 use ms_parser::{ParseFault, model};
 use ms_syntax::{FileNo, LexKind, Spanned, Tree};
+use ms_types::{TypeFault, check};
 use std::alloc::Global;
 
 /// The number of the model's file.
 pub const MODEL: FileNo = 0;
+
+/// The number of the library's file.
+pub const LIBRARY: FileNo = 2;
 
 /// The refusal of bytes whose first fault is of this kind, at this byte.
 fn refused_at(bytes: &[u8], at: usize, kind: LexKind) -> Status
@@ -81,8 +88,29 @@ fn tree_of(alloc: Global, bytes: &[u8], tokens: &[Spanned]) -> Result<Tree, Stat
     }
 }
 
-/// The small model of the plain form that a tree is.
+/// The library beside which models are typed. It has no items yet.
+fn library(alloc: Global) -> Tree
+    ensures { (tree_view result).0 ≡ typing.library }
+{
+    Tree {
+        items: Vec::new(alloc),
+        closed: false,
+    }
+}
+
+/// The refusal of a model for the first fault of its declarations and types.
+fn type_refusal(fault: TypeFault) -> Status
+    ensures { result ≡ refusal.type_refusal fault }
+{
+    match fault {
+        TypeFault::Memory => Status::NoMemory,
+        fault => Status::Refused(Fault::Typing(fault)),
+    }
+}
+
+/// The small model of the plain form that a well typed tree is.
 fn small_model(alloc: Global, tree: &Tree) -> Result<PlainModel, Status>
+    requires typed { IsWellTyped (tree_view tree.now) }
     ensures plain { IfOk result (λ m. IsPlain m (tree_view tree.now)) }
     ensures not_plain { IfErr result (λ e. RefusesTree (tree_view tree.now) e) }
 {
@@ -101,6 +129,18 @@ fn small_model(alloc: Global, tree: &Tree) -> Result<PlainModel, Status>
     }
 }
 
+/// The small model of the plain form that a tree is, where it is well typed.
+fn tree_model(alloc: Global, tree: Tree) -> Result<PlainModel, Status>
+    ensures typed { IsOk result → IsWellTyped (tree_view tree) }
+    ensures plain { IfOk result (λ m. IsPlain m (tree_view tree)) }
+    ensures refused { IfErr result (λ e. RefusesTree (tree_view tree) e) }
+{
+    match check(alloc, tree, library(alloc)) {
+        Ok(typed) => small_model(alloc, typed.tree()),
+        Err(fault) => Err(type_refusal(fault)),
+    }
+}
+
 /// The small model of the plain form that bytes with these tokens are a text of.
 fn model_of(alloc: Global, bytes: &[u8], tokens: &[Spanned]) -> Result<PlainModel, Status>
     requires short { IsShort bytes.now }
@@ -110,7 +150,7 @@ fn model_of(alloc: Global, bytes: &[u8], tokens: &[Spanned]) -> Result<PlainMode
     ensures refused { IfErr result (λ e. Refuses bytes.now e) }
 {
     let tree = tree_of(alloc, bytes, tokens)?;
-    small_model(alloc, &tree)
+    tree_model(alloc, tree)
 }
 
 /// The model that bytes are a text of.

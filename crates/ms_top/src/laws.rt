@@ -7,6 +7,7 @@ ghost use Rattle.ms_top.specs.Faults.{IsAccepted, IsFaulty};
 
 use ms_parser::one_model;
 use ms_syntax::{one_answer, one_reading};
+use ms_types::one_verdict;
 
 /// Bytes have one fault at most, none where they are accepted, and are accepted as one model at most.
 pub fn one_outcome()
@@ -20,4 +21,5 @@ pub fn one_outcome()
     one_reading();
     one_answer();
     one_model();
+    one_verdict();
 }

@@ -6,11 +6,12 @@ ghost use Rattle.ms_top.specs.Answer.{Remains, SaysName};
 ghost use Rattle.ms_top.specs.Text as spec;
 ghost use Rattle.ms_top.specs.Text.{file_name, report_text};
 
-use crate::accept::MODEL;
+use crate::accept::{LIBRARY, MODEL};
 use crate::status::{Fault, Status};
 use itoa::Buffer;
 use ms_io::{Sink, put_report};
 use ms_syntax::{FileNo, LexKind, Place};
+use ms_types::TypeFault;
 use std::alloc::{AllocError, Global};
 
 /// What is said where a model file is wanted.
@@ -21,6 +22,9 @@ const CANNOT_WRITE: &[u8] = b"cannot write\n";
 
 /// What is said where memory ran out.
 const NO_MEMORY: &[u8] = b"out of memory\n";
+
+/// The name of the library's file.
+const LIBRARY_NAME: &[u8] = b"minisearch.mzn";
 
 /// The names of the files of a run.
 #[derive(Clone, Copy)]
@@ -33,7 +37,13 @@ impl<'a> FileNames<'a> {
     fn of(&self, file: FileNo) -> &'a [u8]
         ensures { result.now ≡ file_name self.now.model.now file }
     {
-        if file == MODEL { self.model } else { b"" }
+        if file == MODEL {
+            self.model
+        } else if file == LIBRARY {
+            LIBRARY_NAME
+        } else {
+            b""
+        }
     }
 }
 
@@ -81,6 +91,29 @@ fn at_place(
     Ok(text)
 }
 
+/// What is said of a fault of declarations or types.
+fn type_fault_text(
+    alloc: Global,
+    names: &FileNames,
+    fault: &TypeFault,
+) -> Result<Vec<u8>, AllocError>
+    ensures { IfOk result (λ text. text.items ≡ spec.type_fault_text
+        (file_name names.now.model.now) fault.now) }
+{
+    match fault {
+        TypeFault::Include(place) => at_place(alloc, names, place, b"file cannot be included"),
+        TypeFault::Twice(_, later) => at_place(alloc, names, later, b"declared twice"),
+        TypeFault::NoSolve => of_file(alloc, names.of(MODEL), b"no solve item"),
+        TypeFault::Cycle(place) => at_place(alloc, names, place, b"definitions form a cycle"),
+        TypeFault::Unknown(place) => at_place(alloc, names, place, b"unknown name"),
+        TypeFault::Arity(place) => at_place(alloc, names, place, b"wrong number of arguments"),
+        TypeFault::NotKnown(place) => at_place(alloc, names, place, b"value must be known"),
+        TypeFault::Unsupported(place) => at_place(alloc, names, place, b"not supported"),
+        TypeFault::Mismatch(place) => at_place(alloc, names, place, b"types do not fit"),
+        TypeFault::Memory => Vec::from_slice(alloc, NO_MEMORY),
+    }
+}
+
 fn fault_text(alloc: Global, names: &FileNames, fault: &Fault) -> Result<Vec<u8>, AllocError>
     ensures { IfOk result (λ text. text.items ≡ spec.fault_text
         (file_name names.now.model.now) fault.now) }
@@ -90,6 +123,7 @@ fn fault_text(alloc: Global, names: &FileNames, fault: &Fault) -> Result<Vec<u8>
         Fault::Lex(place, kind) => at_place(alloc, names, place, fault_words(*kind)),
         Fault::Syntax(place) => at_place(alloc, names, place, b"syntax error"),
         Fault::Deep(place) => at_place(alloc, names, place, b"nested too deeply"),
+        Fault::Typing(fault) => type_fault_text(alloc, names, fault),
         Fault::Form(file) => of_file(alloc, names.of(*file), b"not built yet"),
     }
 }

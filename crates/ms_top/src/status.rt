@@ -3,10 +3,11 @@ ghost use Rattle.ms_top.specs.Exit.{exit_code};
 
 use ms_base::{Closing, Limit};
 use ms_syntax::{FileNo, LexKind, Place};
+use ms_types::TypeFault;
 use std::alloc::AllocError;
 
 /// Why an input is not accepted.
-#[derive(Debug, Drop, PartialEq)]
+#[derive(Debug, Drop)]
 pub enum Fault {
     /// The file has more than 1048576 bytes.
     LongFile(FileNo),
@@ -16,12 +17,14 @@ pub enum Fault {
     Syntax(Place),
     /// The first token at which brackets and `if` nest more than 200 deep.
     Deep(Place),
-    /// The model is not of the plain form, which is all that is built yet.
+    /// The first fault of the model's declarations and types, which is never want of memory.
+    Typing(TypeFault),
+    /// The model is well typed and not of the plain form, which is all that is built yet.
     Form(FileNo),
 }
 
 /// How a run of the program ended.
-#[derive(Debug, Drop, PartialEq)]
+#[derive(Debug, Drop)]
 pub enum Status {
     /// The run ended, with the first limit that was reached.
     Done(Closing, Option<Limit>),

@@ -4,6 +4,7 @@ use ms_base::Closing;
 use ms_io::{MemFiles, MemSink, Sink};
 use ms_syntax::{LexKind, Place};
 use ms_top::{Fault, Status, one_outcome, run};
+use ms_types::TypeFault;
 use std::alloc::{AllocError, Global};
 use std::process::Abort;
 use std::test::Fail;
@@ -53,7 +54,7 @@ fn status_of(alloc: Global, model: &[u8]) -> Result<Status, AllocError> {
 }
 
 /// A model, what is written for it, and what is said.
-const ANSWERS: [(&[u8], &[u8], &[u8]); 29] = [
+const ANSWERS: [(&[u8], &[u8], &[u8]); 26] = [
     (
         b"var 1..3: x; var 1..3: y; constraint x + y = 4; constraint x < y; solve satisfy;",
         b"x = 1;\ny = 3;\n----------\n",
@@ -95,24 +96,9 @@ const ANSWERS: [(&[u8], &[u8], &[u8]); 29] = [
         b"",
         b"m.mzn: not built yet\n",
     ),
-    (b"", b"", b"m.mzn: not built yet\n"),
-    (b" \t\r\n", b"", b"m.mzn: not built yet\n"),
+    (b"", b"", b"m.mzn: no solve item\n"),
+    (b" \t\r\n", b"", b"m.mzn: no solve item\n"),
     (b"var 1..3 x;", b"", b"m.mzn:1:10: syntax error\n"),
-    (
-        b"var 1..2: x; var 1..2: x; solve satisfy;",
-        b"",
-        b"m.mzn: not built yet\n",
-    ),
-    (
-        b"constraint y > 0; solve satisfy;",
-        b"",
-        b"m.mzn: not built yet\n",
-    ),
-    (
-        b"var 1..3: x; constraint x<-1; solve satisfy;",
-        b"",
-        b"m.mzn: not built yet\n",
-    ),
     (b"solve minimize 3;", b"", b"m.mzn: not built yet\n"),
     (
         b"var 1..3: x; constraint x = (1); solve satisfy;",
@@ -173,6 +159,90 @@ fn models_are_answered(rt: HostRuntime) -> Result<(), Fail> {
     Ok(())
 }
 
+/// Models of the grammar with a fault of declarations or types, and what is said of them: each kind, and the kinds in
+/// their order, of which the first counts; a model that is not of the plain form is told for its types.
+const ILL_TYPED: [(&[u8], &[u8]); 20] = [
+    (
+        b"include \"other.mzn\"; solve satisfy;",
+        b"m.mzn:1:1: file cannot be included\n",
+    ),
+    (
+        b"var 1..2: x;\nvar 1..2: y;\n var 1..2: x;\nsolve satisfy;",
+        b"m.mzn:3:2: declared twice\n",
+    ),
+    (
+        b"solve satisfy; solve satisfy;",
+        b"m.mzn:1:16: declared twice\n",
+    ),
+    (
+        b"var 1..3: x; var 1..3: sum; solve satisfy;",
+        b"m.mzn:1:14: declared twice\n",
+    ),
+    (b"var 1..3: x;", b"m.mzn: no solve item\n"),
+    (
+        b"int: a = b; int: b = a; solve satisfy;",
+        b"m.mzn:1:1: definitions form a cycle\n",
+    ),
+    (
+        b"constraint y > 0; solve satisfy;",
+        b"m.mzn:1:12: unknown name\n",
+    ),
+    (
+        b"constraint abs(1, 2) > 0; solve satisfy;",
+        b"m.mzn:1:12: wrong number of arguments\n",
+    ),
+    (
+        b"var 1..3: y; var 1..y: x; solve satisfy;",
+        b"m.mzn:1:19: value must be known\n",
+    ),
+    (b"enum Day; solve satisfy;", b"m.mzn:1:1: not supported\n"),
+    (
+        b"int: x = \"a\"; solve satisfy;",
+        b"m.mzn:1:1: types do not fit\n",
+    ),
+    (
+        b"var 1..3: x; constraint x<-1; solve satisfy;",
+        b"m.mzn:1:26: types do not fit\n",
+    ),
+    (
+        b"constraint 3; solve satisfy;",
+        b"m.mzn:1:1: types do not fit\n",
+    ),
+    (
+        b"constraint y > 0; int: a = a; int: b; int: b; include \"o.mzn\";",
+        b"m.mzn:1:47: file cannot be included\n",
+    ),
+    (
+        b"constraint y > 0; int: a = a; int: b; int: b;",
+        b"m.mzn:1:39: declared twice\n",
+    ),
+    (
+        b"constraint y > 0; int: a = a; int: b;",
+        b"m.mzn: no solve item\n",
+    ),
+    (
+        b"constraint y > 0; int: a = a; solve satisfy;",
+        b"m.mzn:1:19: definitions form a cycle\n",
+    ),
+    (
+        b"constraint y > 0; solve satisfy",
+        b"m.mzn:1:12: unknown name\n",
+    ),
+    (
+        b"constraint y > 0 solve satisfy;",
+        b"m.mzn:1:18: syntax error\n",
+    ),
+    (b"solve minimize next();", b"m.mzn:1:16: types do not fit\n"),
+];
+
+#[test]
+fn ill_typed_models_are_refused(rt: HostRuntime) -> Result<(), Fail> {
+    for (model, err) in ILL_TYPED {
+        answers(&rt, rt.alloc(), model, b"", err)?;
+    }
+    Ok(())
+}
+
 /// The status has the kind and the place of a fault, or the closing.
 #[test]
 fn statuses_are_told(rt: HostRuntime) -> Result<(), Fail> {
@@ -182,16 +252,22 @@ fn statuses_are_told(rt: HostRuntime) -> Result<(), Fail> {
         line: 2,
         col: 1,
     };
-    let lex = Status::Refused(Fault::Lex(place, LexKind::BadByte));
-    assert_eq!(rt; status_of(alloc, b"\n_")?, lex);
-    let syntax = Status::Refused(Fault::Syntax(place));
-    assert_eq!(rt; status_of(alloc, b"\n;")?, syntax);
-    let form = Status::Refused(Fault::Form(0));
-    assert_eq!(rt; status_of(alloc, b"")?, form);
-    let plain = Status::Done(Closing::Plain, None);
-    assert_eq!(rt; status_of(alloc, b"solve satisfy")?, plain);
-    let none = Status::Done(Closing::Unsatisfiable, None);
-    assert_eq!(rt; status_of(alloc, b"var 1..0: x; solve satisfy")?, none);
+    let lex = status_of(alloc, b"\n_")?;
+    assert!(rt; matches!(lex, Status::Refused(Fault::Lex(at, LexKind::BadByte)) if at == place));
+    let syntax = status_of(alloc, b"\n;")?;
+    assert!(rt; matches!(syntax, Status::Refused(Fault::Syntax(at)) if at == place));
+    let twice = status_of(alloc, b"solve satisfy;\nsolve satisfy")?;
+    let Status::Refused(Fault::Typing(TypeFault::Twice(earlier, later))) = twice else {
+        panic!(rt; "another status");
+    };
+    assert_eq!(rt; earlier.line, 1);
+    assert_eq!(rt; later, place);
+    let form = status_of(alloc, b"solve minimize 3")?;
+    assert!(rt; matches!(form, Status::Refused(Fault::Form(0))));
+    let plain = status_of(alloc, b"solve satisfy")?;
+    assert!(rt; matches!(plain, Status::Done(Closing::Plain, None)));
+    let none = status_of(alloc, b"var 1..0: x; solve satisfy")?;
+    assert!(rt; matches!(none, Status::Done(Closing::Unsatisfiable, None)));
     Ok(())
 }
 
@@ -272,7 +348,7 @@ fn plain_models_are_small(rt: HostRuntime) -> Result<(), Fail> {
 #[test]
 fn brackets_nest_so_deep(rt: HostRuntime) -> Result<(), Fail> {
     let alloc = rt.alloc();
-    let opened = within(alloc, b"constraint ", b"(", 200, b"1")?;
+    let opened = within(alloc, b"constraint ", b"(", 200, b"true")?;
     let nested = within(alloc, &opened, b")", 200, b"; solve satisfy;")?;
     answers(&rt, alloc, &nested, b"", b"m.mzn: not built yet\n")?;
     let deep = within(alloc, b"constraint ", b"(", 201, b"")?;
@@ -296,11 +372,13 @@ fn cut_texts_are_answered(rt: HostRuntime) -> Result<(), Fail> {
         let words = words(alloc, &["minisearch", "m.mzn"])?;
         let answer = run(alloc, &words, &mut files, &mut written, &mut said);
         if behind == b";".as_slice() {
-            assert_eq!(rt; answer, Status::Done(Closing::Plain, None));
+            assert!(rt; matches!(answer, Status::Done(Closing::Plain, None)));
         } else {
             let is_fault = matches!(
                 answer,
-                Status::Refused(Fault::Syntax(_) | Fault::Lex(_, _) | Fault::Form(_))
+                Status::Refused(
+                    Fault::Syntax(_) | Fault::Lex(_, _) | Fault::Typing(TypeFault::NoSolve)
+                )
             );
             assert!(rt; is_fault);
             assert_eq!(rt; written.bytes(), b"".as_slice());
@@ -323,7 +401,7 @@ fn words_are_two(rt: HostRuntime) -> Result<(), Fail> {
         let mut said = MemSink::new(alloc);
         let words = words(alloc, list)?;
         let answer = run(alloc, &words, &mut files, &mut written, &mut said);
-        assert_eq!(rt; answer, Status::Usage);
+        assert!(rt; matches!(answer, Status::Usage));
         assert_eq!(rt; answer.code(), 2);
         assert_eq!(rt; written.bytes(), b"".as_slice());
         assert_eq!(rt; said.bytes(), b"one model file is wanted\n".as_slice());
@@ -347,7 +425,7 @@ fn reads_fail(rt: HostRuntime) -> Result<(), Fail> {
         let mut said = MemSink::new(alloc);
         let words = words(alloc, &["minisearch", file])?;
         let answer = run(alloc, &words, &mut files, &mut written, &mut said);
-        assert_eq!(rt; answer, Status::ReadFault);
+        assert!(rt; matches!(answer, Status::ReadFault));
         assert_eq!(rt; answer.code(), 3);
         assert_eq!(rt; written.bytes(), b"".as_slice());
         assert_eq!(rt; said.bytes(), text);
@@ -367,7 +445,7 @@ fn puts_fail(rt: HostRuntime) -> Result<(), Fail> {
     said.fail(0, 1)?;
     let words = words(alloc, &["minisearch", "m.mzn"])?;
     let answer = run(alloc, &words, &mut files, &mut written, &mut said);
-    assert_eq!(rt; answer, Status::WriteFault);
+    assert!(rt; matches!(answer, Status::WriteFault));
     assert_eq!(rt; answer.code(), 4);
     assert_eq!(rt; written.bytes(), b"x =".as_slice());
     assert_eq!(rt; said.bytes(), b"c".as_slice());

@@ -116,7 +116,10 @@ module _ (once : OneFirstFault) (model library : List It) where
   no_reason a (declared b k) = some_none (once model library (Some b) None k (a.declared))
   no_reason a (typed c p n k) = let t = types (a.typed.have_types) in let z = faulteds k in absurd (cc)
 
-  refuses_not : (f : TypeFault) → IsAccepted model library → HasFault model library f → ⊥
+  pub one_fault : (f g : TypeFault) → HasFault model library f → HasFault model library g → f ≡ g
+  one_fault f g h k = same_reason (reason f h) (reason g k)
+
+  pub refuses_not : (f : TypeFault) → IsAccepted model library → HasFault model library f → ⊥
   refuses_not f a h = no_reason a (reason f h)
 
   lacks_memory : (f : TypeFault) → IsFound model library f → IsAccepted model library → f ≡ e.Memory
@@ -125,7 +128,7 @@ module _ (once : OneFirstFault) (model library : List It) where
 
   fails_so : {A : Type 0} (f g : TypeFault) → IsFound model library g → HasFault model library f → FailsBy {A = A} f (Err g)
   fails_so f g (inl q) h = inr (ap Err q)
-  fails_so f g (inr k) h = inl (ap Err (same_reason (reason g k) (reason f h)))
+  fails_so f g (inr k) h = inl (ap Err (one_fault g f k h))
 
   pub succeeds : {A : Type 0} (r : Result A TypeFault) → Verdict model library r → IsAccepted model library → Succeeds r
   succeeds (Ok a) v k = tt

@@ -13,9 +13,11 @@
 mod checker;
 mod functions;
 mod items;
+mod laws;
 mod nodes;
 mod typed;
 
 pub use checker::{check, check_expression};
+pub use laws::one_verdict;
 pub use ms_rows::TypeFault;
 pub use typed::Typed;

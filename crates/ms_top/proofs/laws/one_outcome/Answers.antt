@@ -2,13 +2,15 @@ use Rattle.ms_top.proofs.Outcome.{Laws, not_both}
 use Rattle.ms_top.proofs.Outcome as outcome
 use Rattle.ms_top.proofs.laws.one_outcome.Goals as goal
 
-laws : (c : goal.After-one_model) → Laws
+laws : (c : goal.After-one_verdict) → Laws
 laws c = record {
   one_list = c.one_reading.ensures.one_list;
   none_beside = c.one_reading.ensures.none_beside;
   one_fault = c.one_reading.ensures.one_fault;
   one_answer = c.one_answer.ensures.models;
   one_model = c.one_model.ensures;
+  one_type_fault = c.one_verdict.ensures.one_fault;
+  not_ill_typed = c.one_verdict.ensures.not_both;
 }
 
 pub returns-clause-one_fault : goal.returns-clause-one_fault
