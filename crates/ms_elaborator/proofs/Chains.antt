@@ -65,11 +65,7 @@ join_goes_on j ts rest others l t before u h i f k =
     ∙ ap (λ (b : ExprType). and_then (at_link (link_view l) b t) (λ (v : ExprType). from_right ts (links_view others) v)) (sym f)
     ∙ ap (λ (r : Typing ExprType). and_then r (λ (v : ExprType). from_right ts (links_view others) v)) k
 
--- a node whose parts have types
-pub after_parts : (q : Typing (List ExprType)) (a : Typing ExprType) (n : List ExprType → Typing ExprType) (ts : List ExprType) (t : ExprType) (r : Result ExprType TypeFault)
-    → q ≡ has ts → a ≡ has t → Tells (n (ts ++ (t ∷ []))) r → Tells (and_then q (λ (us : List ExprType). and_then a (λ (u : ExprType). n (us ++ (u ∷ []))))) r
-after_parts q a n ts t r h k m = rw (h, k) m
-
-pub before_parts : (a : Typing ExprType) (q : Typing (List ExprType)) (n : List ExprType → Typing ExprType) (t : ExprType) (ts : List ExprType) (r : Result ExprType TypeFault)
-    → a ≡ has t → q ≡ has ts → Tells (n (t ∷ ts)) r → Tells (and_then a (λ (u : ExprType). and_then q (λ (us : List ExprType). n (u ∷ us)))) r
-before_parts a q n t ts r h k m = rw (h, k) m
+-- what comes after two parts that are there
+pub after_both : {A B C : Type 0} → (q : Typing A) (r : Typing B) (n : A → B → Typing C) (a : A) (b : B) (z : Result C TypeFault)
+    → q ≡ has a → r ≡ has b → Tells (n a b) z → Tells (and_then q (λ (c : A). and_then r (λ (d : B). n c d))) z
+after_both q r n a b z h k m = rw (h, k) m

@@ -1,9 +1,12 @@
 -- How many parts there are.
-use Rattle.std.proofs.Common.{◌≡◌, suc, false, List, [], ◌∷◌, length, refl, ap, ◌==◌, arith}
+use Rattle.std.proofs.Common.{◌≡◌, suc, false, Some, List, [], ◌∷◌, length, refl, ap, ◌==◌, arith}
 use Rattle.ms_syntax.specs.declared.tree.Expr.{Expr}
 use Rattle.ms_syntax.specs.declared.tree.Binder.{Binder}
 use Rattle.ms_syntax.specs.Tree.{Ex, Gens, exs_view, names_view}
 use Rattle.ms_syntax.specs.Tree as x
+use Rattle.ms_syntax.specs.declared.token.Place.{Place}
+use Rattle.ms_syntax.specs.Grouping.{first_place as grouped_place}
+use Rattle.ms_code.specs.Code.{first_place}
 use Rattle.ms_typing.specs.Term.{exs_count, is_one_name}
 
 pub exs_counted : (es : List Expr) → exs_count (exs_view es) ≡ length es
@@ -30,3 +33,8 @@ not_one (x.gen (b ∷ (c ∷ bs)) d gs) e = refl
 pub no_more : {A : Type 0} → (xs : List A) → length xs ≡ 0 → xs ≡ []
 no_more [] h = refl
 no_more (x ∷ xs) h = absurd (grind arith)
+
+-- the place of the first name
+pub place_first : (ns : x.Names) (p : Place) → Some p ≡ grouped_place ns → first_place ns ≡ p
+place_first [] p h = absurd cc
+place_first (n ∷ ns) p h = cc

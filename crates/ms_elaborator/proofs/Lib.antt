@@ -1,5 +1,10 @@
 pub mod Chains
 pub mod Counts
+pub mod Elaborating
+pub mod Made
+pub mod Parts
+pub mod Shapes
 pub mod Sizes
+pub mod Told
 pub mod Turns
 pub mod Walked

@@ -1,4 +1,4 @@
--- What the code answers of lists of types.
+-- What the code answers of types.
 use Rattle.std.specs.Prelude.{◌≡◌, List, Result, Ok, Err}
 use Rattle.ms_typing.specs.declared.types.ExprType.{ExprType}
 use Rattle.ms_typing.specs.declared.types.Cause.TheVariants as cause
@@ -19,3 +19,17 @@ TellsAll items r (Err (e.NotKnown p)) = r ≡ fault cause.NotKnown p
 TellsAll items r (Err (e.Unsupported p)) = r ≡ fault cause.Unsupported p
 TellsAll items r (Err (e.Mismatch p)) = r ≡ fault cause.Mismatch p
 TellsAll items r (Err e.Memory) = Unit {0}
+
+-- the same, of what is seen of the answer
+abbrev pub TellsOf : {V A : Type 0} → (V → A) → Typing A → Result V TypeFault → Type 0
+TellsOf seen r (Ok v) = r ≡ has (seen v)
+TellsOf seen r (Err (e.Include p)) = ⊥
+TellsOf seen r (Err (e.Twice p q)) = ⊥
+TellsOf seen r (Err e.NoSolve) = ⊥
+TellsOf seen r (Err (e.Cycle p)) = ⊥
+TellsOf seen r (Err (e.Unknown p)) = r ≡ fault cause.Unknown p
+TellsOf seen r (Err (e.Arity p)) = r ≡ fault cause.Arity p
+TellsOf seen r (Err (e.NotKnown p)) = r ≡ fault cause.NotKnown p
+TellsOf seen r (Err (e.Unsupported p)) = r ≡ fault cause.Unsupported p
+TellsOf seen r (Err (e.Mismatch p)) = r ≡ fault cause.Mismatch p
+TellsOf seen r (Err e.Memory) = Unit {0}

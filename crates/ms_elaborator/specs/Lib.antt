@@ -1,2 +1,4 @@
 pub mod Answers
+pub mod Elaborate
+pub mod Made
 pub mod Walk

@@ -5,7 +5,7 @@ ghost use Rattle.ms_rows.specs.Forms.{Tells};
 ghost use Rattle.ms_syntax.specs.Tree.{links_view};
 ghost use Rattle.ms_elaborator.specs.Walk.{joined_right};
 
-use crate::ends::link_node;
+use crate::ends::link_type;
 use ms_rows::{TypeFault, operand};
 use ms_syntax::Link;
 use ms_typing::ExprType;
@@ -33,7 +33,7 @@ fn join_all(alloc: Global, links: &[Link], types: &[ExprType]) -> Result<ExprTyp
     let mut rest = links;
     while let Some((link, others)) = rest.split_last() {
         let before = operand(others.len(), types);
-        match link_node(alloc, link, before, behind) {
+        match link_type(alloc, link, before, behind) {
             Ok(t) => behind = t,
             Err(fault) => return Err(fault),
         }

@@ -1,29 +1,39 @@
-//! Nodes whose parts have their types.
+//! Nodes whose parts have their types and trees.
 
 ghost use Rattle.std.specs.Prelude.{◌≡◌, ◌∷◌, [], ◌++◌, map, IfOk};
-ghost use Rattle.ms_rows.specs.Forms.{Tells, form_of, told_of};
-ghost use Rattle.ms_syntax.specs.Tree.{absent, decls_view, declaration_view, exs_view, gens_view, generators_view};
-ghost use Rattle.ms_syntax.specs.Tree.{link_view};
+ghost use Rattle.ms_rows.specs.Forms.{Tells, form_of};
+ghost use Rattle.ms_syntax.specs.Tree.{decls_view, declaration_view, generator_view, generators_view, link_view, links_view};
 ghost use Rattle.ms_syntax.specs.Tree.{rows_of, row_view};
-ghost use Rattle.ms_typing.specs.Meaning.{look, tell as told_as};
 ghost use Rattle.ms_typing.specs.Term as f;
-ghost use Rattle.ms_names.specs.Scopes.{names_of};
-ghost use Rattle.ms_names.specs.Worlds.{world_view};
+ghost use Rattle.ms_code.specs.Code.{subscript};
+ghost use Rattle.ms_code.specs.declared.code.Code.TheVariants as c;
+ghost use Rattle.ms_typing.specs.Least.{has};
+ghost use Rattle.ms_nodes.specs.Parts.{kinds_maybe, made as made_of, source_kinds as source_kinds_of};
+ghost use Rattle.ms_elaborator.specs.Answers.{TellsOf};
+ghost use Rattle.ms_elaborator.specs.Elaborate as spec;
 ghost use Rattle.ms_elaborator.specs.Walk.{at_link, at_local, at_node};
 
-use ms_names::{Scope, World, declared_parts, is_data, seen, stands_local, tell, type_of_kind};
-use ms_rows::{Form, Told, TypeFault, settle, truths};
-use ms_syntax::{Declaration, Expr, Generator, Generators, Link, Place, Row, Word};
-use ms_typing::{ExprType, Surroundings};
+use crate::asked::{are_even, asked_of, local_types};
+use crate::chain::join_right;
+use ms_code::{Code, Subscript};
+use ms_names::{declared_parts, is_data, seen, stands_local, type_of_kind};
+use ms_nodes::{
+    Choice, Elaborated, Operand, Source, Sources, arms, bring, bring_all, bring_each, chain,
+    choice_kinds, generators as generators_made, kinds, kinds_and, made, operand_kinds, push,
+    row_kinds, rows as rows_made, source_kinds,
+};
+use ms_rows::{Form, TypeFault, settle, shaped};
+use ms_syntax::{Declaration, Generator, Generators, Link, Place, Row, Sign, Word};
+use ms_typing::{ExprType, Shape, Surroundings};
+use sqlite_items::{Boxed, Items};
 use std::alloc::{AllocError, Global};
 
-/// What stands around a whole expression.
-#[derive(Clone, Copy)]
-pub(crate) struct Context<'a> {
-    pub(crate) alloc: Global,
-    pub(crate) world: &'a World,
-    pub(crate) around: Surroundings,
-}
+/// Where nothing stands.
+const NOWHERE: Place = Place {
+    file: 0,
+    line: 1,
+    col: 1,
+};
 
 /// The type of a node whose parts have these types, or its fault.
 #[tactic(auto, unfolding(crate::specs::Walk::at_node))]
@@ -39,7 +49,7 @@ pub(crate) fn node(
 }
 
 /// The type of an operator between operands of these types.
-pub(crate) fn link_node(
+pub(crate) fn link_type(
     alloc: Global,
     link: &Link,
     left: ExprType,
@@ -55,26 +65,6 @@ pub(crate) fn link_node(
     )
 }
 
-/// Adds a type to a list.
-pub(crate) fn push(types: &mut Vec<ExprType>, t: ExprType) -> Result<(), AllocError>
-    ensures { IfOk result (λ _. types.new.items ≡ types.old.items ++ t ∷ []) }
-{
-    types.push(t)?;
-    Ok(())
-}
-
-/// Adds two types to a list.
-pub(crate) fn push_two(
-    types: &mut Vec<ExprType>,
-    t: ExprType,
-    u: ExprType,
-) -> Result<(), AllocError>
-    ensures { IfOk result (λ _. types.new.items ≡ types.old.items ++ t ∷ u ∷ []) }
-{
-    types.extend_from_slice(&[t, u])?;
-    Ok(())
-}
-
 /// Adds types to a list.
 pub(crate) fn append(types: &mut Vec<ExprType>, more: &[ExprType]) -> Result<(), AllocError>
     ensures { IfOk result (λ _. types.new.items ≡ types.old.items ++ more.now) }
@@ -83,285 +73,354 @@ pub(crate) fn append(types: &mut Vec<ExprType>, more: &[ExprType]) -> Result<(),
     Ok(())
 }
 
-/// What a name is told as.
-fn told<'a>(
-    context: &Context<'a>,
-    scope: &Scope<'_>,
+pub(crate) fn number_node(alloc: Global, place: Place, n: u64) -> Result<Elaborated, TypeFault>
+    ensures { Tells (spec.built (at_node place f.number []) (λ t. c.Number place n)) result }
+{
+    let kind = node(alloc, place, &Form::Number, &[])?;
+    Ok(made(alloc, kind, Code::Number(place, n))?)
+}
+
+pub(crate) fn text_node(alloc: Global, place: Place, text: &Word) -> Result<Elaborated, TypeFault>
+    ensures { Tells (spec.built (at_node place f.text []) (λ t. c.Text place text.now)) result }
+{
+    let kind = node(alloc, place, &Form::Text, &[])?;
+    Ok(made(alloc, kind, Code::Text(place, text.copy(alloc)?))?)
+}
+
+pub(crate) fn truth_node(alloc: Global, place: Place, truth: bool) -> Result<Elaborated, TypeFault>
+    ensures { Tells (spec.built (at_node place f.truth []) (λ t. c.Truth place truth)) result }
+{
+    let kind = node(alloc, place, &Form::Truth, &[])?;
+    Ok(made(alloc, kind, Code::Truth(place, truth))?)
+}
+
+pub(crate) fn prefix_node(
+    alloc: Global,
     place: Place,
-    name: &Word,
-) -> Result<Told<'a>, AllocError>
-    ensures { IfOk result (λ t. told_of t ≡ told_as context.now.around (look (world_view context.now.world.now) place (names_of scope.now) name.now)) }
+    sign: Sign,
+    operand: Elaborated,
+) -> Result<Elaborated, TypeFault>
+    ensures { Tells (spec.built (at_node place (f.prefix sign) (operand.kind ∷ [])) (λ t. c.Prefix place sign operand.code)) result }
 {
-    match context.world.find(place, scope, name)? {
-        Some(found) => Ok(tell(context.around, Some(found.meaning))),
-        None => Ok(tell(context.around, None)),
-    }
+    let kind = node(alloc, place, &Form::Prefix(sign), &[operand.kind])?;
+    Ok(made(alloc, kind, Code::Prefix(place, sign, operand.code))?)
 }
 
-/// A name by itself.
-pub(crate) fn name_node(
-    context: &Context<'_>,
-    scope: &Scope<'_>,
+pub(crate) fn parenthesis_node(
+    alloc: Global,
     place: Place,
-    name: &Word,
-) -> Result<ExprType, TypeFault>
-    ensures { Tells (at_node place (f.stands (told_as context.now.around
-        (look (world_view context.now.world.now) place (names_of scope.now) name.now))) []) result }
+    inner: Elaborated,
+) -> Result<Elaborated, TypeFault>
+    ensures { Tells (spec.built (at_node place f.parenthesis (inner.kind ∷ [])) (λ t. c.Parenthesis place inner.code)) result }
 {
-    let told = told(context, scope, place, name)?;
-    node(context.alloc, place, &Form::Stands(told), &[])
+    let kind = node(alloc, place, &Form::Parenthesis, &[inner.kind])?;
+    Ok(made(alloc, kind, Code::Parenthesis(place, inner.code))?)
 }
 
-/// A name with arguments of these types.
-pub(crate) fn call_node(
-    context: &Context<'_>,
-    scope: &Scope<'_>,
+pub(crate) fn array_node(
+    alloc: Global,
     place: Place,
-    name: &Word,
-    types: &[ExprType],
-) -> Result<ExprType, TypeFault>
-    ensures { Tells (at_node place (f.calls (told_as context.now.around
-        (look (world_view context.now.world.now) place (names_of scope.now) name.now))) types.now) result }
+    elements: Vec<Elaborated>,
+) -> Result<Elaborated, TypeFault>
+    ensures { Tells (spec.elab_array place elements.items) result }
 {
-    let told = told(context, scope, place, name)?;
-    node(context.alloc, place, &Form::Calls(told), types)
+    let types = kinds(alloc, elements.as_slice())?;
+    let kind = node(alloc, place, &Form::Array, types.as_slice())?;
+    let codes = bring_all(alloc, shaped(Shape::Single, kind), elements)?;
+    Ok(made(alloc, kind, Code::Array(place, kind, codes))?)
 }
 
-/// What the sets of generators are to be.
-fn asked_of_sets(alloc: Global, list: &[Generator]) -> Result<Vec<ExprType>, AllocError>
-    ensures { IfOk result (λ v. v.items ≡ f.gens_sets (gens_view list.now)) }
-{
-    let mut asked = Vec::new(alloc);
-    for _generator in list {
-        asked.push(ExprType::Set)?;
-    }
-    Ok(asked)
-}
-
-/// What the sets and the condition of generators are to be.
-fn asked_of(alloc: Global, generators: &Generators) -> Result<Vec<ExprType>, AllocError>
-    ensures { IfOk result (λ v. v.items ≡ f.generator_types (generators_view generators.now).0
-        (generators_view generators.now).1) }
-{
-    let mut asked = asked_of_sets(alloc, generators.list.as_slice())?;
-    match &generators.condition {
-        Some(_) => {
-            push(&mut asked, truths(true))?;
-            Ok(asked)
-        }
-        None => Ok(asked),
-    }
-}
-
-/// Whether there is one generator with one name.
-#[tactic(auto, using(crate::proofs::Counts::one_name, crate::proofs::Counts::more_gens))]
-fn has_one_name(list: &[Generator]) -> bool
-    ensures { result ≡ f.is_one_name (gens_view list.now) absent }
-{
-    match list.split_first() {
-        Some((first, others)) => match others.split_first() {
-            Some(_) => false,
-            None => first.names.as_slice().len() == 1,
-        },
-        None => false,
-    }
-}
-
-/// Whether there is one generator with one name, and no condition.
-#[tactic(auto, using(crate::proofs::Counts::not_one))]
-fn is_one_name(generators: &Generators) -> bool
-    ensures { result ≡ f.is_one_name (generators_view generators.now).0
-        (generators_view generators.now).1 }
-{
-    match &generators.condition {
-        Some(_) => false,
-        None => has_one_name(generators.list.as_slice()),
-    }
-}
-
-/// A name with generators: the types of their sets and of the condition, and that of the element.
-pub(crate) fn generator_node(
-    context: &Context<'_>,
-    scope: &Scope<'_>,
+pub(crate) fn set_node(
+    alloc: Global,
     place: Place,
-    name: &Word,
-    generators: &Generators,
-    mut types: Vec<ExprType>,
-    element: ExprType,
-) -> Result<ExprType, TypeFault>
-    ensures { Tells (at_node place (f.generates (told_as context.now.around
-        (look (world_view context.now.world.now) place (names_of scope.now) name.now))
-        (f.generator_types (generators_view generators.now).0 (generators_view generators.now).1)
-        (f.is_one_name (generators_view generators.now).0 (generators_view generators.now).1))
-        (types.items ++ element ∷ [])) result }
+    elements: Vec<Elaborated>,
+) -> Result<Elaborated, TypeFault>
+    ensures { Tells (spec.elab_set place elements.items) result }
 {
-    push(&mut types, element)?;
-    let asked = asked_of(context.alloc, generators)?;
-    let one = is_one_name(generators);
-    let told = told(context, scope, place, name)?;
-    node(
-        context.alloc,
-        place,
-        &Form::Generates(told, asked.as_slice(), one),
-        types.as_slice(),
-    )
+    let types = kinds(alloc, elements.as_slice())?;
+    let kind = node(alloc, place, &Form::Set, types.as_slice())?;
+    let codes = bring_each(alloc, &[], elements)?;
+    Ok(made(alloc, kind, Code::Set(place, codes))?)
 }
 
-/// An element, and the types of the sets of generators and of their condition.
-pub(crate) fn comprehension_node(
-    context: &Context<'_>,
-    place: Place,
-    generators: &Generators,
-    element: ExprType,
-    sources: Vec<ExprType>,
-) -> Result<ExprType, TypeFault>
-    ensures { Tells (at_node place (f.declaring context.now.around (f.comprehension
-        (f.generator_types (generators_view generators.now).0 (generators_view generators.now).1)))
-        (element ∷ sources.items)) result }
-{
-    let mut types = Vec::new(context.alloc);
-    push(&mut types, element)?;
-    append(&mut types, sources.as_slice())?;
-    let asked = asked_of(context.alloc, generators)?;
-    let form = if is_data(context.around) {
-        Form::Misplaced
-    } else {
-        Form::Comprehension(asked.as_slice())
-    };
-    node(context.alloc, place, &form, types.as_slice())
-}
-
-/// How many elements there are.
-#[tactic(auto, using(crate::proofs::Counts::exs_counted))]
-fn count_all(elements: &[Expr]) -> usize
-    ensures { result ≡ f.exs_count (exs_view elements.now) }
-{
-    elements.len()
-}
-
-/// How many elements a row has.
-fn count(row: &Row) -> usize
-    ensures { result ≡ f.exs_count (row_view row.now) }
-{
-    count_all(row.elements.as_slice())
-}
-
-/// Whether all rows have so many elements.
-fn are_long(length: usize, rows: &[Row]) -> bool
-    ensures { result ≡ f.are_long length (rows_of (map row_view rows.now)) }
-{
-    for row in rows {
-        if count(row) != length {
-            return false;
-        }
-    }
-    true
-}
-
-/// Whether rows have one length.
-fn are_even(rows: &[Row]) -> bool
-    ensures { result ≡ f.are_even (rows_of (map row_view rows.now)) }
-{
-    match rows.split_first() {
-        Some((first, others)) => are_long(count(first), others),
-        None => true,
-    }
-}
-
-/// Rows whose elements have these types.
 pub(crate) fn rows_node(
     alloc: Global,
     place: Place,
     rows: &[Row],
-    types: &[ExprType],
-) -> Result<ExprType, TypeFault>
-    ensures { Tells (at_node place (f.grid (f.are_even (rows_of (map row_view rows.now)))) types.now) result }
+    parts: Vec<Vec<Elaborated>>,
+) -> Result<Elaborated, TypeFault>
+    ensures { Tells (spec.elab_grid place (rows_of (map row_view rows.now)) (map (λ r. r.items) parts.items)) result }
 {
-    node(alloc, place, &Form::Grid(are_even(rows)), types)
+    let types = row_kinds(alloc, parts.as_slice())?;
+    let kind = node(alloc, place, &Form::Grid(are_even(rows)), types.as_slice())?;
+    let list = rows_made(alloc, shaped(Shape::Single, kind), parts)?;
+    Ok(made(alloc, kind, Code::Rows(place, kind, list))?)
 }
 
-/// The parts of an `if` in the order of the text.
-fn choice_parts(
-    alloc: Global,
-    condition: ExprType,
-    branch: ExprType,
-    arms: &[ExprType],
-    last: ExprType,
-) -> Result<Vec<ExprType>, AllocError>
-    ensures { IfOk result (λ v. v.items ≡ condition ∷ branch ∷ (arms.now ++ last ∷ [])) }
-{
-    let mut types = Vec::from_slice(alloc, &[condition, branch])?;
-    types.extend_from_slice(arms)?;
-    types.push(last)?;
-    Ok(types)
-}
-
-/// An `if`: the first condition and branch, the further ones, and the last branch.
+/// An `if`: its first condition and branch, the further ones, and the last branch.
 pub(crate) fn choice_node(
     alloc: Global,
     place: Place,
-    condition: ExprType,
-    branch: ExprType,
-    arms: Vec<ExprType>,
-    last: ExprType,
-) -> Result<ExprType, TypeFault>
-    ensures { Tells (at_node place f.choice (condition ∷ branch ∷ (arms.items ++ last ∷ []))) result }
+    first: Choice,
+    more: Vec<Choice>,
+    last: Elaborated,
+) -> Result<Elaborated, TypeFault>
+    ensures { Tells (spec.elab_choice place first more.items last) result }
 {
-    let types = choice_parts(alloc, condition, branch, arms.as_slice(), last)?;
-    node(alloc, place, &Form::Choice, types.as_slice())
+    let types = choice_kinds(alloc, &first, more.as_slice(), last.kind)?;
+    let kind = node(alloc, place, &Form::Choice, types.as_slice())?;
+    let list = arms(alloc, kind, first, more)?;
+    let last = bring(alloc, kind, last)?;
+    Ok(made(alloc, kind, Code::If(place, list, last))?)
 }
 
-/// What locals are declared as.
-fn local_types(
+/// The type of a comprehension.
+fn comprehension_type(
     alloc: Global,
     around: Surroundings,
-    locals: &[Declaration],
-) -> Result<Vec<ExprType>, AllocError>
-    ensures { IfOk result (λ v. v.items ≡ f.local_types around (decls_view locals.now)) }
+    place: Place,
+    generators: &Generators,
+    element: ExprType,
+    sources: &Sources,
+) -> Result<ExprType, TypeFault>
+    ensures { Tells (at_node place (f.declaring around (f.comprehension
+        (f.generator_types (generators_view generators.now).0 (generators_view generators.now).1)))
+        (element ∷ source_kinds_of (sources.now.list.items, sources.now.condition))) result }
 {
     let mut types = Vec::new(alloc);
-    for local in locals {
-        types.push(seen(around, type_of_kind(&local.kind)))?;
-    }
-    Ok(types)
+    push(&mut types, element)?;
+    let more = source_kinds(alloc, sources)?;
+    append(&mut types, more.as_slice())?;
+    let asked = asked_of(alloc, generators)?;
+    let form = if is_data(around) {
+        Form::Misplaced
+    } else {
+        Form::Comprehension(asked.as_slice())
+    };
+    node(alloc, place, &form, types.as_slice())
 }
 
-/// Locals, which have these types, and the body.
-pub(crate) fn let_node(
-    context: &Context<'_>,
+/// An element, and the sets of generators with their condition.
+pub(crate) fn comprehension_node(
+    alloc: Global,
+    around: Surroundings,
+    place: Place,
+    generators: &Generators,
+    element: Elaborated,
+    sources: Sources,
+) -> Result<Elaborated, TypeFault>
+    ensures { Tells (spec.elab_comprehension around place (generators_view generators.now).0 (generators_view generators.now).1
+        element (sources.list.items, sources.condition)) result }
+{
+    let kind = comprehension_type(alloc, around, place, generators, element.kind, &sources)?;
+    let made_generators = generators_made(alloc, sources)?;
+    Ok(made(
+        alloc,
+        kind,
+        Code::Comprehension(place, kind, made_generators, element.code),
+    )?)
+}
+
+/// The type of a `let`.
+fn let_type(
+    alloc: Global,
+    around: Surroundings,
     place: Place,
     locals: &[Declaration],
-    mut types: Vec<ExprType>,
-    body: ExprType,
+    types: &[ExprType],
 ) -> Result<ExprType, TypeFault>
-    ensures { Tells (at_node place (f.declaring context.now.around (f.lets (f.local_types context.now.around (decls_view locals.now))))
-        (types.items ++ body ∷ [])) result }
+    ensures { Tells (at_node place (f.declaring around (f.lets (f.local_types around (decls_view locals.now)))) types.now) result }
 {
-    push(&mut types, body)?;
-    let declared = local_types(context.alloc, context.around, locals)?;
-    let form = if is_data(context.around) {
+    let declared = local_types(alloc, around, locals)?;
+    let form = if is_data(around) {
         Form::Misplaced
     } else {
         Form::Lets(declared.as_slice())
     };
-    node(context.alloc, place, &form, types.as_slice())
+    node(alloc, place, &form, types)
 }
 
-/// A local: the types of the sets that its kind names, and of its value.
-pub(crate) fn local_node(
-    context: &Context<'_>,
+/// Locals with their values, and the body.
+pub(crate) fn let_node(
+    alloc: Global,
+    around: Surroundings,
+    place: Place,
+    locals: &[Declaration],
+    values: Vec<Elaborated>,
+    body: Elaborated,
+) -> Result<Elaborated, TypeFault>
+    ensures { Tells (spec.elab_let around place (decls_view locals.now) values.items body) result }
+{
+    let types = kinds_and(alloc, values.as_slice(), body.kind)?;
+    let kind = let_type(alloc, around, place, locals, types.as_slice())?;
+    let codes = bring_each(alloc, &[], values)?;
+    Ok(made(alloc, kind, Code::Let(place, codes, body.code))?)
+}
+
+/// The type of a local: the types of the sets that its kind names, and of its value.
+fn local_type(
+    alloc: Global,
+    around: Surroundings,
     local: &Declaration,
     types: &[ExprType],
 ) -> Result<ExprType, TypeFault>
-    ensures { Tells (at_local context.now.around (declaration_view local.now) types.now) result }
+    ensures { Tells (at_local around (declaration_view local.now) types.now) result }
 {
-    let kind = seen(context.around, type_of_kind(&local.kind));
-    let asked = declared_parts(context.alloc, &local.kind, kind, &local.value)?;
+    let kind = seen(around, type_of_kind(&local.kind));
+    let asked = declared_parts(alloc, &local.kind, kind, &local.value)?;
     let stands = stands_local(&local.kind, &local.value);
     node(
-        context.alloc,
+        alloc,
         local.place,
         &Form::Declares(stands, asked.as_slice(), kind),
         types,
     )
+}
+
+/// The value of a local, if it has one, as its type.
+fn valued(
+    alloc: Global,
+    asked: ExprType,
+    value: Option<Elaborated>,
+) -> Result<Boxed<Code>, AllocError>
+    ensures { IfOk result (λ e. e ≡ spec.valued asked value) }
+{
+    match value {
+        Some(part) => bring(alloc, asked, part),
+        None => Boxed::new(alloc, Code::Truth(NOWHERE, true)),
+    }
+}
+
+/// A local with its value: the types of the sets that its kind names.
+pub(crate) fn local_node(
+    alloc: Global,
+    around: Surroundings,
+    local: &Declaration,
+    mut types: Vec<ExprType>,
+    value: Option<Elaborated>,
+) -> Result<Elaborated, TypeFault>
+    ensures { Tells (spec.elab_declared around (declaration_view local.now) types.items value) result }
+{
+    push_maybe(&mut types, &value)?;
+    let kind = local_type(alloc, around, local, types.as_slice())?;
+    let asked = seen(around, type_of_kind(&local.kind));
+    let code = valued(alloc, asked, value)?;
+    Ok(Elaborated { kind, code })
+}
+
+/// Adds the type of a part, if it is there.
+pub(crate) fn push_maybe(
+    types: &mut Vec<ExprType>,
+    part: &Option<Elaborated>,
+) -> Result<(), AllocError>
+    ensures { IfOk result (λ _. types.new.items ≡ types.old.items ++ kinds_maybe part.now) }
+{
+    match part {
+        Some(part) => push(types, part.kind),
+        None => Ok(()),
+    }
+}
+
+/// An array with some subscripts, of this type, and the last of these.
+#[derive(Drop)]
+pub(crate) struct Indexed {
+    pub(crate) kind: ExprType,
+    pub(crate) first: Boxed<Code>,
+    pub(crate) second: Option<Boxed<Code>>,
+}
+
+/// One subscript behind an array of this type.
+pub(crate) fn subscribe(
+    alloc: Global,
+    place: Place,
+    array: ExprType,
+    first: Elaborated,
+    second: Option<Elaborated>,
+) -> Result<Indexed, TypeFault>
+    ensures { TellsOf (λ i. (i.kind, subscript i.first i.second)) (spec.elab_access place array first second) result }
+{
+    let mut types = Vec::from_slice(alloc, &[array, first.kind])?;
+    push_maybe(&mut types, &second)?;
+    let kind = node(alloc, place, &Form::Access, types.as_slice())?;
+    Ok(Indexed {
+        kind,
+        first: first.code,
+        second: match second {
+            Some(part) => Some(part.code),
+            None => None,
+        },
+    })
+}
+
+/// An array with its subscripts, of this type.
+pub(crate) fn access_node(
+    alloc: Global,
+    place: Place,
+    kind: ExprType,
+    array: Elaborated,
+    list: Items<Subscript>,
+) -> Result<Elaborated, TypeFault>
+    ensures { Tells (has (made_of kind (c.Access place array.code list))) result }
+{
+    Ok(made(alloc, kind, Code::Access(place, array.code, list))?)
+}
+
+/// The set of a generator.
+#[tactic(auto, using(crate::proofs::Counts::place_first))]
+pub(crate) fn source_of(generator: &Generator, set: Elaborated) -> Source
+    ensures { result ≡ spec.source_of (generator_view generator.now).0 set }
+{
+    Source {
+        place: generator.place(),
+        names: generator.names.as_slice().len(),
+        set,
+    }
+}
+
+/// The first operands of a chain, of this type, and the last of these.
+#[derive(Drop)]
+pub(crate) struct Joined {
+    pub(crate) kind: ExprType,
+    pub(crate) operand: Operand,
+}
+
+/// An operator with its operand.
+pub(crate) fn operand_of(link: &Link, operand: Elaborated) -> Operand
+    ensures { result ≡ spec.operand_of (link_view link.now).0 (link_view link.now).1 operand }
+{
+    Operand {
+        operator: link.operator,
+        place: link.place,
+        operand,
+    }
+}
+
+/// One operator behind operands of this type.
+pub(crate) fn join(
+    alloc: Global,
+    left: ExprType,
+    link: &Link,
+    operand: Elaborated,
+) -> Result<Joined, TypeFault>
+    ensures { TellsOf (λ j. (j.kind, j.operand)) (spec.elab_link left (spec.operand_of (link_view link.now).0 (link_view link.now).1 operand)) result }
+{
+    let kind = link_type(alloc, link, left, operand.kind)?;
+    Ok(Joined {
+        kind,
+        operand: operand_of(link, operand),
+    })
+}
+
+/// Operands with operators that group to the right.
+pub(crate) fn right_node(
+    alloc: Global,
+    first: Elaborated,
+    links: &[Link],
+    operands: Vec<Operand>,
+) -> Result<Elaborated, TypeFault>
+    ensures { Tells (spec.elab_right first (links_view links.now) operands.items) result }
+{
+    let types = operand_kinds(alloc, operands.as_slice())?;
+    let kind = join_right(alloc, links, first.kind, types)?;
+    Ok(chain(alloc, kind, first, operands)?)
 }

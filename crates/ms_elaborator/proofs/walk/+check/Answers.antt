@@ -1,62 +1,101 @@
-use Rattle.std.proofs.Common.{◌≡◌, ◌∙◌, take, rules, arith}
-use Rattle.ms_syntax.specs.Tree.{declaration_view, decls_view, ex_view, gens_view, generator_view, generators_view}
+use Rattle.std.proofs.Common.{◌≡◌, ◌∙◌, List, take, Option, rules, arith}
+use Rattle.ms_syntax.specs.Tree.{declaration_view, decls_view, ex_view, gens_view, generator_view, generators_view, link_view}
 use Rattle.ms_syntax.specs.Tree as x
 use Rattle.ms_syntax.specs.declared.tree.Expr.{the_lemmas}
 use Rattle.ms_typing.specs.Least.{has}
-use Rattle.ms_typing.specs.Meaning.{look, tell}
-use Rattle.ms_typing.specs.Term.{declaring, generator_types, is_one_name, with_gens, with_locals}
-use Rattle.ms_typing.specs.Term as f
+use Rattle.ms_typing.specs.Term.{with_gens, with_locals}
 use Rattle.ms_names.specs.Scopes.{names_of}
 use Rattle.ms_names.specs.Worlds.{world_view}
 use Rattle.ms_names.specs.declared.scope.Scope as scope
-use Rattle.ms_elaborator.specs.Walk.{at_node, walk, walk_local, walk_sources}
-use Rattle.ms_elaborator.proofs.Chains.{after_parts, before_parts}
+use Rattle.ms_nodes.specs.declared.parts.Elaborated.{Elaborated}
+use Rattle.ms_nodes.specs.declared.parts.Source.{Source}
+use Rattle.ms_elaborator.specs.Elaborate.{elab, elab_comprehension, elab_gathering, elab_local, elab_operand, elab_source, elab_sources}
+use Rattle.ms_elaborator.proofs.Chains.{after_both}
 use Rattle.ms_elaborator.proofs.Sizes.{in_access, in_concatenation, in_conjunction, in_disjunction, in_equivalence, in_implication, in_product, in_sum}
-use Rattle.ms_elaborator.proofs.Turns.{locals_turn, sets_turn}
+use Rattle.ms_elaborator.proofs.Turns.{arms_turn, links_turn, locals_turn, no_index_turn, one_index_turn, operands_turn, sets_turn}
 use Rattle.ms_elaborator.proofs.walk.+check.Goals as goal
+use Rattle.ms_elaborator.proofs.walk.+check.Goals.{check_indices-in-AnyInt, check_indices-in-Over+in_ok-m-in-Over+in_ok-push-in-Over}
 
-pub check-returns-in_ok-t-in-GeneratorCall : goal.check-returns-in_ok-t-in-GeneratorCall
-check-returns-in_ok-t-in-GeneratorCall t c =
+pub check-returns-in_ok-m-in-GeneratorCall : goal.check-returns-in_ok-m-in-GeneratorCall
+check-returns-in_ok-m-in-GeneratorCall t c =
     let world = world_view c.args.context.now.world.now in
     let around = c.args.context.now.around in
     let names = names_of c.args.scope.now in
     let gs = generators_view c.in-GeneratorCall.generators in
     let body = ex_view c.in-GeneratorCall.body.value in
     let place = c.in-GeneratorCall.place in
-    let view : ex_view c.args.e.now ≡ x.generator_call place c.in-GeneratorCall.name gs.0 gs.1 body = search (rules, the_lemmas) in
-    let inner : walk world around (with_gens gs.0 names) body ≡ has c.in_ok-t-in-GeneratorCall.t = search (rules, the_lemmas, scope.the_lemmas) in
-    rw view (after_parts (walk_sources world around names gs.0 gs.1) (walk world around (with_gens gs.0 names) body)
-    (at_node place (f.generates (tell around (look world place names c.in-GeneratorCall.name)) (generator_types gs.0 gs.1) (is_one_name gs.0 gs.1)))
-    c.in_ok-types-in-GeneratorCall.types.items c.in_ok-t-in-GeneratorCall.t c.generator_node.result
-    c.in_ok-types-in-GeneratorCall.ensures inner c.generator_node.ensures)
+    let name = c.in-GeneratorCall.name in
+    let given = c.in_ok-sources-in-GeneratorCall.sources in
+    let view : ex_view c.args.e.now ≡ x.generator_call place name gs.0 gs.1 body = search (rules, the_lemmas) in
+    let inner : elab world around (with_gens gs.0 names) body ≡ has c.in_ok-m-in-GeneratorCall.m = search (rules, the_lemmas, scope.the_lemmas) in
+    rw view (after_both (elab_sources world around names gs.0 gs.1) (elab world around (with_gens gs.0 names) body)
+    (λ (ss : List Source × Option Elaborated) (m : Elaborated). elab_gathering world around names place name gs.0 gs.1 ss m)
+    (given.list.items, given.condition) c.in_ok-m-in-GeneratorCall.m c.generator_node.result
+    c.in_ok-sources-in-GeneratorCall.ensures inner c.generator_node.ensures)
 
-pub check-returns-in_ok-types-in-Comprehension : goal.check-returns-in_ok-types-in-Comprehension
-check-returns-in_ok-types-in-Comprehension t c =
+pub check-returns-in_ok-sources-in-Comprehension : goal.check-returns-in_ok-sources-in-Comprehension
+check-returns-in_ok-sources-in-Comprehension t c =
     let world = world_view c.args.context.now.world.now in
     let around = c.args.context.now.around in
     let names = names_of c.args.scope.now in
     let gs = generators_view c.in-Comprehension.generators in
     let element = ex_view c.in-Comprehension.element.value in
     let place = c.in-Comprehension.place in
+    let given = c.in_ok-sources-in-Comprehension.sources in
     let view : ex_view c.args.e.now ≡ x.comprehension place element gs.0 gs.1 = search (rules, the_lemmas) in
-    let inner : walk world around (with_gens gs.0 names) element ≡ has c.in_ok-t-in-Comprehension.t = search (rules, the_lemmas, scope.the_lemmas) in
-    rw view (before_parts (walk world around (with_gens gs.0 names) element) (walk_sources world around names gs.0 gs.1)
-    (at_node place (declaring around (f.comprehension (generator_types gs.0 gs.1))))
-    c.in_ok-t-in-Comprehension.t c.in_ok-types-in-Comprehension.types.items c.comprehension_node.result
-    inner c.in_ok-types-in-Comprehension.ensures c.comprehension_node.ensures)
+    let inner : elab world around (with_gens gs.0 names) element ≡ has c.in_ok-m-in-Comprehension.m = search (rules, the_lemmas, scope.the_lemmas) in
+    rw view (after_both (elab world around (with_gens gs.0 names) element) (elab_sources world around names gs.0 gs.1)
+    (λ (m : Elaborated) (ss : List Source × Option Elaborated). elab_comprehension around place gs.0 gs.1 m ss)
+    c.in_ok-m-in-Comprehension.m (given.list.items, given.condition) c.comprehension_node.result
+    inner c.in_ok-sources-in-Comprehension.ensures c.comprehension_node.ensures)
+
+pub check_arms-loop-arm-preserved : goal.check_arms-loop-arm-preserved
+check_arms-loop-arm-preserved t c =
+    rw c.in_ok-push.ensures (c.loop-arm.invariant
+    ∙ arms_turn (world_view c.args.context.now.world.now) c.args.context.now.around (names_of c.args.scope.now) c.args.arms.now c.loop-arm.arm-index c.arm-item.result c.loop-arm.choices.items
+    c.in_ok-choice.choice c.loop-arm-test.true c.arm-item.is c.in_ok-choice.ensures)
+
+pub check_links-loop-link-preserved : goal.check_links-loop-link-preserved
+check_links-loop-link-preserved t c =
+    rw c.in_ok-push.ensures (c.loop-link.invariant
+    ∙ links_turn (world_view c.args.context.now.world.now) c.args.context.now.around (names_of c.args.scope.now) c.args.links.now c.loop-link.link-index c.link-item.result c.loop-link.operands.items
+    c.loop-link.kind c.in_ok-next.next.kind c.in_ok-next.next.operand c.loop-link-test.true c.link-item.is c.in_ok-next.ensures)
+
+pub check_operands-loop-link-preserved : goal.check_operands-loop-link-preserved
+check_operands-loop-link-preserved t c =
+    let world = world_view c.args.context.now.world.now in
+    let around = c.args.context.now.around in
+    let names = names_of c.args.scope.now in
+    let h : elab_operand world around names (link_view c.link-item.result) ≡ has c.operand_of.result = search (rules, the_lemmas) in
+    rw c.in_ok-push.ensures (c.loop-link.invariant
+    ∙ operands_turn world around names c.args.links.now c.loop-link.link-index c.link-item.result c.loop-link.operands.items c.operand_of.result
+    c.loop-link-test.true c.link-item.is h)
+
+pub check_indices-loop-index-preserved : goal.check_indices-loop-index-preserved
+check_indices-loop-index-preserved t c =
+    let world = world_view c.args.context.now.world.now in
+    let around = c.args.context.now.around in
+    let names = names_of c.args.scope.now in
+    elim c.match-index.branch [
+      | check_indices-in-AnyInt w ↦ rw w.types-is (c.loop-index.invariant
+          ∙ no_index_turn world around names c.args.indices.now c.loop-index.index-index c.index-item.result c.loop-index.types.items c.loop-index-test.true c.index-item.is w.in-AnyInt.is)
+      | check_indices-in-Over+in_ok-m-in-Over+in_ok-push-in-Over w ↦ rw (w.types-is, w.in_ok-push-in-Over.ensures) (c.loop-index.invariant
+          ∙ one_index_turn world around names c.args.indices.now c.loop-index.index-index c.index-item.result c.loop-index.types.items w.in-Over.set w.in_ok-m-in-Over.m
+          c.loop-index-test.true c.index-item.is w.in-Over.is w.in_ok-m-in-Over.ensures)
+    ]
 
 pub check_locals-loop-i-preserved : goal.check_locals-loop-i-preserved
 check_locals-loop-i-preserved t c =
-    let h : walk_local (world_view c.args.context.now.world.now) c.args.context.now.around (with_locals (decls_view (take c.loop-i.i c.args.locals.now)) (names_of c.args.scope.now)) (declaration_view c.index-locals-i.result) ≡ has c.in_ok-t.t = search (rules, scope.the_lemmas) in
+    let h : elab_local (world_view c.args.context.now.world.now) c.args.context.now.around (with_locals (decls_view (take c.loop-i.i c.args.locals.now)) (names_of c.args.scope.now)) (declaration_view c.index-locals-i.result) ≡ has c.in_ok-m.m = search (rules, scope.the_lemmas) in
     rw c.in_ok-push.ensures (c.loop-i.invariant
-    ∙ locals_turn (world_view c.args.context.now.world.now) c.args.context.now.around (names_of c.args.scope.now) c.args.locals.now c.loop-i.i c.index-locals-i.result c.loop-i.types.items c.in_ok-t.t
+    ∙ locals_turn (world_view c.args.context.now.world.now) c.args.context.now.around (names_of c.args.scope.now) c.args.locals.now c.loop-i.i c.index-locals-i.result c.loop-i.values.items c.in_ok-m.m
     c.loop-i-test.true c.index-locals-i.is h)
 
 pub check_sets-loop-i-preserved : goal.check_sets-loop-i-preserved
 check_sets-loop-i-preserved t c =
-    let h : walk (world_view c.args.context.now.world.now) c.args.context.now.around (with_gens (gens_view (take c.loop-i.i c.args.list.now)) (names_of c.args.scope.now)) (generator_view c.index-list-i.result).1 ≡ has c.in_ok-t.t = search (rules, scope.the_lemmas) in
+    let h : elab_source (world_view c.args.context.now.world.now) c.args.context.now.around (with_gens (gens_view (take c.loop-i.i c.args.list.now)) (names_of c.args.scope.now)) (generator_view c.index-list-i.result) ≡ has c.in_ok-set.set = search (rules, scope.the_lemmas) in
     rw c.in_ok-push.ensures (c.loop-i.invariant
-    ∙ sets_turn (world_view c.args.context.now.world.now) c.args.context.now.around (names_of c.args.scope.now) c.args.list.now c.loop-i.i c.index-list-i.result c.loop-i.types.items c.in_ok-t.t
+    ∙ sets_turn (world_view c.args.context.now.world.now) c.args.context.now.around (names_of c.args.scope.now) c.args.list.now c.loop-i.i c.index-list-i.result c.loop-i.sets.items c.in_ok-set.set
     c.loop-i-test.true c.index-list-i.is h)
 
 pub check-check_links-requires : goal.check-check_links-requires
