@@ -5,22 +5,27 @@ use Rattle.ms_syntax.specs.Tree.{It}
 use Rattle.ms_typing.specs.declared.types.ExprType.{ExprType}
 use Rattle.ms_typing.specs.declared.types.Cause.{Cause}
 use Rattle.ms_typing.specs.declared.types.Cause.TheVariants as cause
-use Rattle.ms_typing.specs.Items.{model_terms, world_of}
+use Rattle.ms_typing.specs.Items.{items_terms, model_terms, world_of}
 use Rattle.ms_typing.specs.Judged.{HasFirstFault, IsWellTyped}
-use Rattle.ms_typing.specs.Least.{Typing, and_then, fault, has, typings}
+use Rattle.ms_typing.specs.Least.{Typing, fault, has, typings}
 use Rattle.ms_typing.specs.Meaning.{World}
 use Rattle.ms_typing.proofs.SharedJudging.{faulteds, judges_all, sounds, types}
 use Rattle.ms_declarations.specs.declared.fault.DeclarationFault.{DeclarationFault}
 use Rattle.ms_declarations.specs.declared.fault.DeclarationFault.TheVariants as d
 use Rattle.ms_declarations.specs.First.{FirstFault}
-use Rattle.ms_rows.specs.Forms.{Tells}
 use Rattle.ms_rows.specs.declared.fault.TypeFault.{TypeFault}
 use Rattle.ms_rows.specs.declared.fault.TypeFault.TheVariants as e
-use Rattle.ms_types.specs.Faults.{FailsBy, HasFault, HasTypes, IsAccepted, IsFound, Succeeds, Verdict}
-use Rattle.ms_types.specs.Walk.{checked, walk_texts}
-use Rattle.ms_types.proofs.Walked.{texts_walked}
+use Rattle.ms_types.specs.declared.found.Trees.{Trees}
+use Rattle.ms_types.specs.Faults.{AreTrees, FailsBy, HasFault, HasTypes, IsAccepted, IsFound, Succeeds, Verdict}
+use Rattle.ms_elaborator.specs.Answers.{TellsOf}
+use Rattle.ms_items.specs.Parts.{checked}
+use Rattle.ms_types.specs.Walk.{walk_texts}
+use Rattle.ms_items.proofs.SharedItems.{then_checked}
 
 -- ---- what the walk answers
+
+texts_walked : (model library : List It) → checked (typings (model_terms model library)) ≡ walk_texts (world_of model library) library model
+texts_walked model library = let world = world_of model library in then_checked (items_terms world library) (items_terms world model)
 
 typed_of : (r : Typing (List ExprType)) → checked r ≡ has tt → (ts : List ExprType) × (r ≡ has ts)
 typed_of (has ts) q = (ts, refl)
@@ -39,26 +44,38 @@ module _ (model library : List It) where
   first_fault : (c : Cause) (p : Place) → walk_texts (world_of model library) library model ≡ fault c p → HasFirstFault model library c p
   first_fault c p q = judges_all (model_terms model library) (fault c p) (fault_of (typings (model_terms model library)) c p (texts_walked model library ∙ q))
 
-  told : (f : TypeFault) → FirstFault model library None → Tells {A = Unit {0}} (walk_texts (world_of model library) library model) (Err f) → IsFound model library f
-  told (e.Include p) n q = absurd q
-  told (e.Twice p r) n q = absurd q
-  told e.NoSolve n q = absurd q
-  told (e.Cycle p) n q = absurd q
-  told (e.Unknown p) n q = inr (n, first_fault cause.Unknown p q)
-  told (e.Arity p) n q = inr (n, first_fault cause.Arity p q)
-  told (e.NotKnown p) n q = inr (n, first_fault cause.NotKnown p q)
-  told (e.Unsupported p) n q = inr (n, first_fault cause.Unsupported p q)
-  told (e.Mismatch p) n q = inr (n, first_fault cause.Mismatch p q)
-  told e.Memory n q = inl refl
+  told : (A : Type 0) (f : TypeFault) → FirstFault model library None → TellsOf {V = A} (λ a. tt) (walk_texts (world_of model library) library model) (Err f) → IsFound model library f
+  told A (e.Include p) n q = absurd q
+  told A (e.Twice p r) n q = absurd q
+  told A e.NoSolve n q = absurd q
+  told A (e.Cycle p) n q = absurd q
+  told A (e.Unknown p) n q = inr (n, first_fault cause.Unknown p q)
+  told A (e.Arity p) n q = inr (n, first_fault cause.Arity p q)
+  told A (e.NotKnown p) n q = inr (n, first_fault cause.NotKnown p q)
+  told A (e.Unsupported p) n q = inr (n, first_fault cause.Unsupported p q)
+  told A (e.Mismatch p) n q = inr (n, first_fault cause.Mismatch p q)
+  told A e.Memory n q = inl refl
 
 -- the same among names that are those of both texts
-found_types : (model library : List It) → FirstFault model library None → (r : Result (Unit {0}) TypeFault) → Tells (walk_texts (world_of model library) library model) r → HasTypes model library r
-found_types model library n (Ok a) q = well_typed model library q
-found_types model library n (Err f) q = told model library f n q
+found_types : (A : Type 0) (model library : List It) → FirstFault model library None → (r : Result A TypeFault) → TellsOf {V = A} (λ a. tt) (walk_texts (world_of model library) library model) r → HasTypes model library r
+found_types A model library n (Ok a) q = well_typed model library q
+found_types A model library n (Err f) q = told model library A f n q
 
-pub types_found : (model library : List It) (w : World) (r : Result (Unit {0}) TypeFault) → Tells (walk_texts w library model) r
+pub types_found : (A : Type 0) (model library : List It) (w : World) (r : Result A TypeFault) → TellsOf {V = A} (λ a. tt) (walk_texts w library model) r
     → FirstFault model library None → w ≡ world_of model library → HasTypes model library r
-types_found model library w r k n q = found_types model library n r (subst (λ (v : World). Tells (walk_texts v library model) r) q k)
+types_found A model library w r k n q = found_types A model library n r (subst (λ (v : World). TellsOf {V = A} (λ a. tt) (walk_texts v library model) r) q k)
+
+-- what is found among both texts, which are read again for each step
+pub decided : (model library m l ms ls : List It) (w : World) (t : Trees) → m ≡ model → l ≡ library → ms ≡ model → ls ≡ library
+    → FirstFault model library None → w ≡ world_of m l → (FirstFault ms ls None → w ≡ world_of ms ls → IsWellTyped ms ls) → AreTrees w ms ls t
+    → IsAccepted model library × ((w ≡ world_of model library) × AreTrees (world_of model library) model library t)
+decided model library m l ms ls w t a b c d first same typed trees =
+    let e : w ≡ world_of model library = same ∙ ap (λ (x : List It). world_of x l) a ∙ ap (λ (y : List It). world_of model y) b in
+    let k : FirstFault model library None → w ≡ world_of model library → IsWellTyped model library =
+    subst (λ (x : List It). FirstFault x library None → w ≡ world_of x library → IsWellTyped x library) c
+    (subst (λ (y : List It). FirstFault ms y None → w ≡ world_of ms y → IsWellTyped ms y) d typed) in
+    let u : AreTrees w model library t = subst (λ (x : List It). AreTrees w x library t) c (subst (λ (y : List It). AreTrees w ms y t) d trees) in
+    (record { declared = first; typed = k first e }, (e, subst (λ (v : World). AreTrees v model library t) e u))
 
 -- ---- one answer
 

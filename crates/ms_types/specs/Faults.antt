@@ -5,11 +5,14 @@ use Rattle.ms_typing.specs.declared.types.Cause.TheVariants as cause
 use Rattle.ms_typing.specs.Items.{world_of}
 use Rattle.ms_typing.specs.Judged.{HasFirstFault, IsWellTyped}
 use Rattle.ms_names.specs.Worlds.{world_view}
-use Rattle.ms_names.specs.declared.world.World.{World}
+use Rattle.ms_typing.specs.Meaning.{World}
+use Rattle.ms_code.specs.Items.{items_code}
 use Rattle.ms_declarations.specs.declared.fault.DeclarationFault.TheVariants as d
 use Rattle.ms_declarations.specs.First.{FirstFault}
 use Rattle.ms_rows.specs.declared.fault.TypeFault.{TypeFault}
 use Rattle.ms_rows.specs.declared.fault.TypeFault.TheVariants as e
+use Rattle.ms_types.specs.declared.found.Found.{Found}
+use Rattle.ms_types.specs.declared.found.Trees.{Trees}
 
 -- no fault in what is declared, and each item has its types
 pub record IsAccepted (model library : List It) : Type 0 where
@@ -48,13 +51,17 @@ Declares model library (Ok a) = FirstFault model library None
 Declares model library (Err f) = IsFound model library f
 
 -- each item has its types, or the first fault
-abbrev pub HasTypes : List It → List It → Result (Unit {0}) TypeFault → Type 0
+abbrev pub HasTypes : {A : Type 0} → List It → List It → Result A TypeFault → Type 0
 HasTypes model library (Ok a) = IsWellTyped model library
 HasTypes model library (Err f) = IsFound model library f
 
--- the names of a model that is accepted, or its first fault
-abbrev pub Decides : List It → List It → Result World TypeFault → Type 0
-Decides model library (Ok w) = IsAccepted model library × (world_view w ≡ world_of model library)
+-- the typed trees of the items of both
+abbrev pub AreTrees : World → List It → List It → Trees → Type 0
+AreTrees world model library t = (t.items ≡ items_code world model) × (t.library_items ≡ items_code world library)
+
+-- the names of a model that is accepted with its typed trees, or its first fault
+abbrev pub Decides : List It → List It → Result Found TypeFault → Type 0
+Decides model library (Ok found) = IsAccepted model library × ((world_view found.world ≡ world_of model library) × AreTrees (world_of model library) model library found.trees)
 Decides model library (Err f) = IsFound model library f
 
 -- a model that is accepted, or its first fault

@@ -8,19 +8,24 @@ ghost use Rattle.ms_typing.specs.Term.{term_of};
 ghost use Rattle.ms_names.specs.Scopes.{names_of};
 ghost use Rattle.ms_names.specs.Worlds.{world_view};
 ghost use Rattle.ms_declarations.specs.First.{FirstFault};
-ghost use Rattle.ms_rows.specs.Forms.{Tells};
+ghost use Rattle.ms_code.specs.Code.{code_of};
+ghost use Rattle.ms_code.specs.Items.{items_code};
+ghost use Rattle.ms_elaborator.specs.Answers.{TellsOf};
 ghost use Rattle.ms_rows.specs.declared.fault.TypeFault.{TypeFault as Fault};
-ghost use Rattle.ms_types.specs.Faults.{Decides, Declares, FailsBy, HasFault, HasTypes, IsAccepted, IsFound, Succeeds, Verdict};
-ghost use Rattle.ms_types.specs.Texts.{library_of, model_of};
+ghost use Rattle.ms_types.specs.Faults.{AreTrees, Decides, Declares, FailsBy, HasFault, HasTypes, IsAccepted, IsFound, Succeeds, Verdict};
+ghost use Rattle.ms_types.specs.Texts.{library_of, model_of, names_among};
+ghost use Rattle.ms_types.specs.Walk.{walk_texts};
 
-use crate::items::check_texts;
+use crate::found::{Found, Trees};
 use crate::typed::Typed;
 use ms_declarations::{DeclarationFault, declaration_fault, one_first_fault};
-use ms_elaborator::least_type;
+use ms_elaborator::{Elaborated, elaborate};
+use ms_items::items;
 use ms_names::{Scope, World};
 use ms_rows::TypeFault;
 use ms_syntax::{Expr, Item, Tree};
-use ms_typing::{ExprType, Surroundings};
+use ms_typing::Surroundings;
+use sqlite_items::Items;
 use std::alloc::Global;
 
 /// The first fault of what both texts declare.
@@ -39,47 +44,90 @@ fn check_declarations(alloc: Global, model: &Tree, library: &Tree) -> Result<(),
     }
 }
 
-/// The first fault in the types of both texts, whose names are known and which declare nothing wrong.
+/// The typed trees of both texts among these names, the library's before the model's, or the first fault in their types.
+fn check_items(
+    alloc: Global,
+    world: &World,
+    model: &[Item],
+    library: &[Item],
+) -> Result<Trees, TypeFault>
+    ensures typing { TellsOf (λ _. tt) (walk_texts (world_view world.now) (map item_view library.now) (map item_view model.now)) result }
+    ensures trees { IfOk result (λ t. AreTrees (world_view world.now) (map item_view model.now) (map item_view library.now) t) }
+{
+    let library_items = items(alloc, world, library)?;
+    let items = items(alloc, world, model)?;
+    Ok(Trees {
+        items,
+        library_items,
+    })
+}
+
+/// Both texts, whose names are known and which declare nothing wrong.
 fn check_types(
     alloc: Global,
     world: &World,
     model: &[Item],
     library: &[Item],
-) -> Result<(), TypeFault>
-    ensures { FirstFault (map item_view model.now) (map item_view library.now) None
+) -> Result<Trees, TypeFault>
+    ensures typing { FirstFault (map item_view model.now) (map item_view library.now) None
         → world_view world.now ≡ world_of (map item_view model.now) (map item_view library.now)
         → HasTypes (map item_view model.now) (map item_view library.now) result }
+    ensures trees { IfOk result (λ t. AreTrees (world_view world.now) (map item_view model.now) (map item_view library.now) t) }
 {
-    check_texts(alloc, world, library, model)
+    check_items(alloc, world, model, library)
 }
 
-/// The names of both texts, where they are well typed.
-fn typed_world(alloc: Global, model: &Tree, library: &Tree) -> Result<World, TypeFault>
+/// The names of both texts and the typed trees of their items, where they are well typed.
+fn find(alloc: Global, model: &Tree, library: &Tree) -> Result<Found, TypeFault>
     ensures { Decides (tree_view model.now).0 (tree_view library.now).0 result }
 {
     check_declarations(alloc, model, library)?;
     let world = World::new(alloc, model.items.as_slice(), library.items.as_slice())?;
-    check_types(
+    let trees = check_types(
         alloc,
         &world,
         model.items.as_slice(),
         library.items.as_slice(),
     )?;
-    Ok(world)
+    Ok(Found { world, trees })
 }
 
-/// A model with its names, or a fault.
+/// A model that is accepted, with its names and the typed trees of both texts.
+fn accept(
+    model: Tree,
+    library: Tree,
+    world: World,
+    items: Items<ms_code::Item>,
+    library_items: Items<ms_code::Item>,
+) -> Typed
+    requires accepted { IsAccepted (tree_view model).0 (tree_view library).0 }
+    requires names { world_view world ≡ world_of (tree_view model).0 (tree_view library).0 }
+    requires trees { items ≡ items_code (world_of (tree_view model).0 (tree_view library).0) (tree_view model).0 }
+    requires library_trees { library_items ≡ items_code (world_of (tree_view model).0 (tree_view library).0) (tree_view library).0 }
+    ensures given_model { model_of result ≡ tree_view model }
+    ensures given_library { library_of result ≡ tree_view library }
+{
+    Typed {
+        tree: model,
+        library,
+        world,
+        items,
+        library_items,
+    }
+}
+
+/// A model with its names and typed trees, or a fault.
 fn checked(alloc: Global, model: Tree, library: Tree) -> Result<Typed, TypeFault>
     ensures given_model { IfOk result (λ t. model_of t ≡ tree_view model) }
     ensures given_library { IfOk result (λ t. library_of t ≡ tree_view library) }
     ensures verdict { Verdict (tree_view model).0 (tree_view library).0 result }
 {
-    let world = typed_world(alloc, &model, &library)?;
-    Ok(Typed {
-        tree: model,
-        library,
-        world,
-    })
+    let Found { world, trees } = find(alloc, &model, &library)?;
+    let Trees {
+        items,
+        library_items,
+    } = trees;
+    Ok(accept(model, library, world, items, library_items))
 }
 
 /// Whether a model is well typed beside a library, and else its first fault: an `include` of another
@@ -99,18 +147,19 @@ pub fn check(alloc: Global, model: Tree, library: Tree) -> Result<Typed, TypeFau
     checked(alloc, model, library)
 }
 
-/// The least type of one more expression, in these surroundings and among these names, or its first
-/// fault. Its names are the library's where its places say that it stands there.
+/// One more expression in these surroundings and among these names: its least type with its typed
+/// tree, or its first fault of types; names that it declares twice are not looked at. Its names are the
+/// library's where its places say that it stands there.
 pub fn check_expression(
     alloc: Global,
     typed: &Typed,
     surroundings: Surroundings,
     scope: &Scope<'_>,
     e: &Expr,
-) -> Result<ExprType, TypeFault>
-    ensures { Tells (typing (term_of (world_of (model_of typed.now).0
-        (library_of typed.now).0) surroundings
+) -> Result<Elaborated, TypeFault>
+    ensures typing { TellsOf (λ m. m.kind) (typing (term_of (names_among typed.now) surroundings
         (names_of scope.now) (ex_view e.now))) result }
+    ensures code { IfOk result (λ m. m.code ≡ code_of (names_among typed.now) surroundings (names_of scope.now) (ex_view e.now)) }
 {
-    least_type(alloc, &typed.world, surroundings, scope, e)
+    elaborate(alloc, &typed.world, surroundings, scope, e)
 }

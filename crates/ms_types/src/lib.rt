@@ -1,8 +1,9 @@
 //! The type checker of a model beside the library.
 //!
 //! [`check`] says whether a model is well typed beside a library, or which fault comes first, and leaves a [`Typed`]:
-//! both texts, the names that their items declare, and the fact that the model is accepted. [`check_expression`] types
-//! one more expression among the names of a checked model, in any surroundings.
+//! both texts, the names that their items declare, the typed trees of the items, and the fact that the model is accepted.
+//! [`check_expression`] types one more expression among the names of a checked model, in any surroundings, and answers its
+//! typed tree with its least type.
 //!
 //! Contracts see a model and a library through `tree_view` and `model_of`, `library_of` (`specs/Texts.antt`). Which model
 //! is accepted and which fault comes first stands in `specs/Faults.antt`, over the definitions of `ms_declarations` (what
@@ -11,13 +12,12 @@
 #![tactic(auto)]
 
 mod checker;
-mod functions;
-mod items;
+mod found;
 mod laws;
-mod nodes;
 mod typed;
 
 pub use checker::{check, check_expression};
 pub use laws::one_verdict;
+pub use ms_elaborator::Elaborated;
 pub use ms_rows::TypeFault;
 pub use typed::Typed;

@@ -1,104 +1,165 @@
+//! What the checker says of the tables' texts.
+
+use crate::answers::well_typed;
+use crate::tables::{hold_expressions, hold_model, hold_models, hold_orders};
 use ms_names::Scope;
-use ms_parser::{model, statement};
-use ms_syntax::Tree;
-use ms_types::{TypeFault, check, check_expression};
-use ms_typing::{ExprType, Scalar, Shape, Surroundings};
+use ms_syntax::{Item, Parameter, Tree};
+use ms_type_tables::{calls, expressions, forms, items, large, library, orders};
+use ms_typing::Surroundings;
 use std::alloc::Global;
 use std::process::Abort;
 use std::test::Fail;
 
-const LIBRARY: &str = "function ann: first() = next() /\\ commit() /\\ print();";
-
-const ACCEPTED: [&str; 3] = [
-    "var 1..3: x; var 1..3: y; constraint x + y = 4; constraint x < y; solve satisfy;",
-    "var 1..3: x; solve search first();",
-    "int: n; array[1..n] of var 1..n: q; constraint all_different(q); solve satisfy;",
-];
-
-/// Models with a fault: why, and the column of its place, 0 where there is none.
-const REFUSED: [(&str, &str, u32); 8] = [
-    ("include \"other.mzn\"; solve satisfy;", "include", 1),
-    (
-        "int: f = 1; predicate f() = true; solve satisfy;",
-        "twice",
-        13,
-    ),
-    ("var 1..3: x;", "no solve", 0),
-    ("int: a = b; int: b = a; solve satisfy;", "cycle", 1),
-    ("constraint y > 0; solve satisfy;", "unknown", 12),
-    ("constraint abs(1, 2) > 0; solve satisfy;", "arity", 12),
-    ("var 1..3: y; var 1..y: x; solve satisfy;", "not known", 19),
-    ("int: x = \"a\"; solve satisfy;", "mismatch", 1),
-];
-
-fn read(rt: &impl Abort, alloc: Global, file: u8, text: &str) -> Result<Tree, Fail> {
-    let bytes = text.as_bytes();
-    assert!(rt; bytes.len() <= 1048576);
-    let tokens = ms_lexer::tokens(alloc, file, bytes)?;
-    Ok(model(alloc, tokens.as_slice())?)
-}
-
-fn cause(fault: &TypeFault) -> (&'static str, u32) {
-    match fault {
-        TypeFault::Include(place) => ("include", place.col),
-        TypeFault::Twice(_, place) => ("twice", place.col),
-        TypeFault::NoSolve => ("no solve", 0),
-        TypeFault::Cycle(place) => ("cycle", place.col),
-        TypeFault::Unknown(place) => ("unknown", place.col),
-        TypeFault::Arity(place) => ("arity", place.col),
-        TypeFault::NotKnown(place) => ("not known", place.col),
-        TypeFault::Unsupported(place) => ("unsupported", place.col),
-        TypeFault::Mismatch(place) => ("mismatch", place.col),
-        TypeFault::Memory => ("memory", 0),
-    }
-}
-
-#[test]
-fn typed_models_are_accepted(rt: HostRuntime) -> Result<(), Fail> {
-    let alloc = rt.alloc();
-    for text in ACCEPTED.iter() {
-        let library = read(&rt, alloc, 2, LIBRARY)?;
-        let model = read(&rt, alloc, 0, text)?;
-        assert!(rt; check(alloc, model, library).is_ok());
+/// Holds tables of expressions that use the same names, each in its surroundings.
+fn hold_all(rt: &impl Abort, alloc: Global, tables: &[(Surroundings, &str)]) -> Result<(), Fail> {
+    let typed = well_typed(rt, alloc, expressions::NAMES, "")?;
+    for (around, table) in tables {
+        hold_expressions(rt, alloc, &typed, *around, &Scope::Outer, table)?;
     }
     Ok(())
 }
 
+const FORMS: &[(Surroundings, &str)] = &[
+    (Surroundings::Model, forms::OPERATORS),
+    (Surroundings::Model, forms::BRACKETS),
+    (Surroundings::Search, forms::SEARCHES),
+    (Surroundings::Search, forms::KNOWN_IN_SEARCHES),
+    (Surroundings::Output, forms::OUTPUTS),
+    (Surroundings::Called, forms::CALLED),
+    (Surroundings::Data, forms::DATA),
+];
+
 #[test]
-fn the_first_fault_refuses_a_model(rt: HostRuntime) -> Result<(), Fail> {
+fn forms_have_their_types(rt: HostRuntime) -> Result<(), Fail> {
+    hold_all(&rt, rt.alloc(), FORMS)
+}
+
+const CALLS: &[(Surroundings, &str)] = &[
+    (Surroundings::Model, calls::OF_ARRAYS),
+    (Surroundings::Model, calls::OF_VALUES),
+    (Surroundings::Model, calls::BARRED),
+    (Surroundings::Output, calls::OF_OUTPUTS),
+    (Surroundings::Search, calls::OF_INCUMBENTS),
+    (Surroundings::Search, calls::STEPS),
+];
+
+#[test]
+fn calls_have_their_types(rt: HostRuntime) -> Result<(), Fail> {
+    hold_all(&rt, rt.alloc(), CALLS)
+}
+
+#[test]
+fn items_have_their_types(rt: HostRuntime) -> Result<(), Fail> {
     let alloc = rt.alloc();
-    for (text, why, col) in REFUSED.iter() {
-        let library = read(&rt, alloc, 2, LIBRARY)?;
-        let model = read(&rt, alloc, 0, text)?;
-        match check(alloc, model, library) {
-            Ok(_) => assert!(rt; false),
-            Err(fault) => {
-                let (told, at) = cause(&fault);
-                assert_eq!(rt; told, *why);
-                assert_eq!(rt; at, *col);
-            }
-        }
-    }
+    hold_models(&rt, alloc, "", items::KINDS, "; solve satisfy", "")?;
+    hold_models(&rt, alloc, "", items::MODELS, "", "")
+}
+
+#[test]
+fn names_are_declared_once_and_by_others(rt: HostRuntime) -> Result<(), Fail> {
+    hold_models(&rt, rt.alloc(), "", items::TWICE, "", "")?;
+    hold_models(&rt, rt.alloc(), "", items::CYCLES, "", "")
+}
+
+#[test]
+fn faults_come_by_their_kind(rt: HostRuntime) -> Result<(), Fail> {
+    hold_orders(&rt, rt.alloc(), orders::OF_FOUR)?;
+    hold_orders(&rt, rt.alloc(), orders::OF_SOME)?;
+    hold_orders(&rt, rt.alloc(), orders::UNSOLVED)?;
+    hold_orders(&rt, rt.alloc(), orders::BESIDE)
+}
+
+/// The library does not see the model's names, and the model sees its.
+#[test]
+fn the_library_is_checked_first(rt: HostRuntime) -> Result<(), Fail> {
+    let alloc = rt.alloc();
+    let unknown = "constraint z > 0";
+    hold_models(&rt, alloc, "", orders::BESIDE_UNKNOWN, "", unknown)?;
+    hold_models(&rt, alloc, "", orders::BESIDE_NAME, "", "int: z")
+}
+
+#[test]
+fn the_library_is_well_typed(rt: HostRuntime) -> Result<(), Fail> {
+    let typed = well_typed(&rt, rt.alloc(), "solve satisfy", library::SEARCHES)?;
+    assert_eq!(rt; typed.library().items.len(), 12);
+    assert_eq!(rt; typed.tree().items.len(), 1);
     Ok(())
 }
 
 #[test]
-fn expressions_are_checked_beside_a_model(rt: HostRuntime) -> Result<(), Fail> {
+fn models_call_the_library(rt: HostRuntime) -> Result<(), Fail> {
     let alloc = rt.alloc();
-    let library = read(&rt, alloc, 2, LIBRARY)?;
-    let model = read(&rt, alloc, 0, "var 1..3: x; solve satisfy;")?;
-    match check(alloc, model, library) {
-        Ok(typed) => {
-            assert_eq!(rt; typed.tree().items.len(), 2);
-            assert_eq!(rt; typed.library().items.len(), 1);
-            let text = "x + 1";
-            let tokens = ms_lexer::tokens(alloc, 0, text.as_bytes())?;
-            let e = statement(alloc, tokens.as_slice())?;
-            let found = check_expression(alloc, &typed, Surroundings::Model, &Scope::Outer, &e);
-            let wanted = ExprType::Plain(Scalar::Number, Shape::Single, false);
-            assert!(rt; matches!(found, Ok(t) if t == wanted));
-        }
-        Err(_) => assert!(rt; false),
+    let names = "; var 1..9: x; array[1..3] of var 1..9: a; array[1..2, 1..2] of var int: g";
+    hold_models(
+        &rt,
+        alloc,
+        "solve search ",
+        library::GOALS,
+        names,
+        library::SEARCHES,
+    )?;
+    hold_models(&rt, alloc, "", library::HIDING, "", library::SEARCHES)
+}
+
+/// The parameters of a tree's first item.
+fn first_parameters(tree: &Tree) -> &[Parameter] {
+    match tree.items.first() {
+        Some(Item::Predicate(_, _, parameters, _)) => parameters.as_slice(),
+        _ => &[],
+    }
+}
+
+/// Where the places of an expression are the library's, its names are; what stands around it hides what items declare.
+#[test]
+fn names_are_those_of_the_text(rt: HostRuntime) -> Result<(), Fail> {
+    let alloc = rt.alloc();
+    let typed = well_typed(&rt, alloc, expressions::OWN, expressions::OTHER)?;
+    let outer = Scope::Outer;
+    let inner = Scope::Parameters(first_parameters(typed.tree()), &outer);
+    let around = Surroundings::Search;
+    hold_expressions(&rt, alloc, &typed, around, &outer, expressions::OF_TEXTS)?;
+    hold_expressions(
+        &rt,
+        alloc,
+        &typed,
+        around,
+        &inner,
+        expressions::AMONG_PARAMETERS,
+    )
+}
+
+/// Holds models in which brackets stand around a value, so often.
+fn hold_deep(
+    rt: &impl Abort,
+    alloc: Global,
+    before: &str,
+    middle: &str,
+    table: &[(&str, &str, usize)],
+) -> Result<(), Fail> {
+    for (first, last, count) in table {
+        let opened = first.repeat(alloc, *count)?;
+        let closed = last.repeat(alloc, *count)?;
+        let model = format!(in alloc; "solve {before}{opened}{middle}{closed}")?;
+        hold_model(rt, alloc, model.as_str(), "", first, "accepted")?;
+    }
+    Ok(())
+}
+
+/// Each form that nests, as often as it may: 200 brackets deep.
+#[test]
+fn deep_texts_are_typed(rt: HostRuntime) -> Result<(), Fail> {
+    hold_deep(&rt, rt.alloc(), "minimize ", "1", large::DEEP)?;
+    hold_deep(&rt, rt.alloc(), "search ", "skip", large::DEEP_SEARCHES)
+}
+
+/// Long chains of operators, many branches, many items, and many subscripts, of which the second has nothing to select.
+#[test]
+fn long_texts_are_typed(rt: HostRuntime) -> Result<(), Fail> {
+    let alloc = rt.alloc();
+    for (before, piece, count, after, wanted) in large::LONG {
+        let pieces = piece.repeat(alloc, *count)?;
+        let model = format!(in alloc; "{before}{pieces}{after}")?;
+        hold_model(&rt, alloc, model.as_str(), "", piece, wanted)?;
     }
     Ok(())
 }

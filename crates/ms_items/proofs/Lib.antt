@@ -1,0 +1,4 @@
+pub mod Bodies
+pub mod Declarers
+pub mod SharedItems
+pub mod Walked

@@ -1,8 +1,0 @@
-use Rattle.std.proofs.Common.{◌≡◌, drop, map}
-use Rattle.ms_syntax.specs.Tree.{item_view}
-use Rattle.ms_names.specs.Worlds.{world_view}
-use Rattle.ms_types.specs.Walk.{walk_items}
-use Rattle.ms_types.proofs.items.check_items.Given as goal
-
-abbrev pub invariant-loop-item : goal.invariant-loop-item
-invariant-loop-item l = walk_items (world_view l.world) (map item_view l.items) ≡ walk_items (world_view l.world) (map item_view (drop l.item-index l.items))
