@@ -1,10 +1,12 @@
 //! How long the calls of stores take.
 //!
-//! The words are four numbers: how many variables stand, how many marks stand one in the other, how many numbers a set
-//! with holes has, and how often each call is made. On standard output stands for each row a sum over what was read, on
-//! standard error the nanoseconds for one round: of four readers; of a cut at an end; of a mark, a cut and its undo; of
-//! a number that goes out of a set whose every other number is gone, with a mark and its undo; of all marks with one
-//! cut at each, and the undo of all.
+//! The first word is `copies`, `trail` or `both`; then come five numbers: how many variables stand, how many marks stand
+//! one in the other, how many numbers a set spans of which only the odd ones are left, how many ranges another set has,
+//! and how often each call is made. On standard output stands for each row a sum over what was read, on standard error
+//! the nanoseconds for one round: of four readers; of a cut at an end, of a hundred under one mark, and its part of going
+//! back; of a mark, a cut and its undo; of a mark with a cut, of all that stand one in the other, and its part of the undo
+//! of all; of whether a number is in the set of many ranges; of a number that goes out of a set with holes, of a hundred under
+//! one mark, and its part of going back.
 #![tactic(auto)]
 
 ghost use Rattle.std.specs.Prelude.{IsTrue};
@@ -12,6 +14,7 @@ ghost use Rattle.ms_store.specs.Stored.{IsFilled};
 
 use ms_num::{Iv, Ranges};
 use ms_store::{Copies, Cut, Mark, Store};
+use ms_trail::Trail;
 use std::alloc::{AllocError, Global};
 use std::time::Instant;
 use std::{env, io};
@@ -110,12 +113,13 @@ fn reads<S: Store>(store: &S, vars: u32, times: u32) -> u64 {
     sum
 }
 
-fn cuts<S: Store>(store: &mut S, vars: u32, times: u32) -> Result<u64, AllocError> {
+/// Some cuts at an end under one mark, each of which takes a number, and all come back.
+fn cuts<S: Store>(store: &mut S, vars: u32, count: u32) -> Result<u64, AllocError> {
     let mark = store.mark()?;
     let mut sum = 0u64;
     let mut v = 0u32;
-    let mut hi = 1_000_000i64;
-    for _ in 0..times {
+    let mut hi = 999_999i64;
+    for _ in 0..count {
         sum = sum.wrapping_add(cut_at_most(store, v, hi)?);
         v = after(v, vars);
         if v == 0 {
@@ -126,33 +130,71 @@ fn cuts<S: Store>(store: &mut S, vars: u32, times: u32) -> Result<u64, AllocErro
     Ok(sum)
 }
 
+fn many_cuts<S: Store>(store: &mut S, vars: u32, times: u32) -> Result<u64, AllocError> {
+    let mut sum = 0u64;
+    for _ in 0..times / 100 {
+        sum = sum.wrapping_add(cuts(store, vars, 100)?);
+    }
+    Ok(sum)
+}
+
 fn marked_cuts<S: Store>(store: &mut S, vars: u32, times: u32) -> Result<u64, AllocError> {
     let mut sum = 0u64;
     let mut v = 0u32;
     for n in 0..times {
         let mark = store.mark()?;
         sum = sum.wrapping_add(cut_at_most(store, v, i64::from(n))?);
-        sum = sum.wrapping_add(read(store, v, 1));
         undo(store, mark);
         v = after(v, vars);
     }
     Ok(sum)
 }
 
-fn marked_values<S: Store>(store: &mut S, v: u32, hi: i64, times: u32) -> Result<u64, AllocError> {
+/// Some odd numbers between 1 and another go, no two of them neighbours, each from another variable than the one before,
+/// and all come back.
+fn values<S: Store>(store: &mut S, vars: u32, hi: i64, count: u32) -> Result<u64, AllocError> {
+    let mark = store.mark()?;
     let mut sum = 0u64;
-    let mut n = 1i64;
-    for _ in 0..times {
-        let mark = store.mark()?;
+    let mut v = 0u32;
+    let mut n = 3i64;
+    for _ in 0..count {
         sum = sum.wrapping_add(cut_value(store, v, n)?);
-        sum = sum.wrapping_add(read(store, v, n));
-        undo(store, mark);
-        n = n.wrapping_add(2);
-        if n > hi {
-            n = 1;
+        v = after(v, vars);
+        n = n.wrapping_add(74);
+        if n >= hi {
+            n = n.wrapping_sub(hi).wrapping_add(3) | 1;
         }
     }
+    undo(store, mark);
     Ok(sum)
+}
+
+fn many_values<S: Store>(store: &mut S, vars: u32, hi: i64, times: u32) -> Result<u64, AllocError> {
+    let mut sum = 0u64;
+    for _ in 0..times / 100 {
+        sum = sum.wrapping_add(values(store, vars, hi, 100)?);
+    }
+    Ok(sum)
+}
+
+fn has<S: Store>(store: &S, v: u32, n: i64) -> u64 {
+    if v as usize >= store.vars() {
+        return 0;
+    }
+    u64::from(store.has(v, n))
+}
+
+/// How many of some numbers below another are in the set.
+fn members<S: Store>(store: &S, v: u32, end: u32, times: u32) -> u64 {
+    if end == 0 {
+        return 0;
+    }
+    let mut sum = 0u64;
+    for k in 0..times {
+        let n = k.wrapping_mul(7919) % end;
+        sum = sum.wrapping_add(has(store, v, i64::from(n)));
+    }
+    sum
 }
 
 fn deep<S: Store>(store: &mut S, vars: u32, marks: u32) -> Result<u64, AllocError> {
@@ -173,41 +215,63 @@ struct Sizes {
     vars: u32,
     marks: u32,
     holes: u32,
+    ranges: u32,
     times: u32,
 }
 
 fn told(rt: &HostRuntime, name: &str, start: Instant, sum: u64, times: u32) -> io::Result<()> {
-    let each = start.elapsed(rt)?.as_nanos() / u128::from(times.max(1));
-    eprintln!(rt; "{name}: {each}")?;
+    let tenths = start.elapsed(rt)?.as_nanos().saturating_mul(10) / u128::from(times.max(1));
+    let (each, rest) = (tenths / 10, tenths % 10);
+    eprintln!(rt; "{name}: {each}.{rest}")?;
     println!(rt; "{name}: {sum}")
 }
 
-/// The rows of one store, which has no variables yet.
-fn timed<S: Store>(rt: &HostRuntime, store: &mut S, sizes: Sizes) -> io::Result<()> {
+/// The rows over intervals, of a store without variables.
+fn time_intervals<S: Store>(rt: &HostRuntime, store: &mut S, sizes: Sizes) -> io::Result<()> {
     let alloc = rt.alloc();
-    let Sizes {
-        vars,
-        marks,
-        holes,
-        times,
-    } = sizes;
+    let Sizes { vars, times, .. } = sizes;
     grow(store, alloc, &up_to(alloc, 1_000_000)?, vars)?;
     let start = Instant::now(rt)?;
     let sum = reads(store, vars, times);
-    told(rt, "readers", start, sum, times)?;
+    told(rt, "four readers", start, sum, times)?;
     let start = Instant::now(rt)?;
-    let sum = cuts(store, vars, times)?;
+    let sum = many_cuts(store, vars, times)?;
     told(rt, "a cut", start, sum, times)?;
     let start = Instant::now(rt)?;
     let sum = marked_cuts(store, vars, times)?;
     told(rt, "a mark, a cut and undo", start, sum, times)?;
     let start = Instant::now(rt)?;
-    let sum = deep(store, vars, marks)?;
-    told(rt, "one of the marks", start, sum, marks)?;
-    grow(store, alloc, &odd_up_to(alloc, i64::from(holes))?, 1)?;
+    let sum = deep(store, vars, sizes.marks)?;
+    told(rt, "one of the marks", start, sum, sizes.marks)
+}
+
+/// The rows over sets with holes, of such a store.
+fn time_holes<S: Store>(rt: &HostRuntime, store: &mut S, sizes: Sizes) -> io::Result<()> {
+    let alloc = rt.alloc();
+    let times = sizes.times;
+    let holes = i64::from(sizes.holes);
+    let wide = sizes.ranges.wrapping_mul(2);
+    grow(store, alloc, &odd_up_to(alloc, i64::from(wide))?, 1)?;
     let start = Instant::now(rt)?;
-    let sum = marked_values(store, vars, i64::from(holes), times)?;
-    told(rt, "a mark, a number and undo", start, sum, times)
+    let sum = members(store, 0, wide, times);
+    told(rt, "a number is there", start, sum, times)?;
+    store.shrink(0);
+    grow(store, alloc, &odd_up_to(alloc, holes)?, sizes.vars)?;
+    let start = Instant::now(rt)?;
+    let sum = many_values(store, sizes.vars, holes, times)?;
+    told(rt, "a number goes", start, sum, times)
+}
+
+fn time_copies(rt: &HostRuntime, sizes: Sizes) -> io::Result<()> {
+    println!(rt; "copies")?;
+    time_intervals(rt, &mut Copies::new(rt.alloc()), sizes)?;
+    time_holes(rt, &mut Copies::new(rt.alloc()), sizes)
+}
+
+fn time_trail(rt: &HostRuntime, sizes: Sizes) -> io::Result<()> {
+    println!(rt; "trail")?;
+    time_intervals(rt, &mut Trail::new(rt.alloc()), sizes)?;
+    time_holes(rt, &mut Trail::new(rt.alloc()), sizes)
 }
 
 fn number(words: &mut env::Args) -> u32 {
@@ -220,15 +284,21 @@ fn number(words: &mut env::Args) -> u32 {
 fn main(rt: HostRuntime) -> io::Result<()> {
     let mut words = env::args(&rt)?;
     let _program = words.next();
-    let vars = number(&mut words);
-    let marks = number(&mut words);
-    let holes = number(&mut words);
-    let times = number(&mut words);
-    let sizes = Sizes {
-        vars,
-        marks,
-        holes,
-        times,
+    let Some(store) = words.next() else {
+        return Ok(());
     };
-    timed(&rt, &mut Copies::new(rt.alloc()), sizes)
+    let sizes = Sizes {
+        vars: number(&mut words),
+        marks: number(&mut words),
+        holes: number(&mut words),
+        ranges: number(&mut words),
+        times: number(&mut words),
+    };
+    if store.as_str() != "trail" {
+        time_copies(&rt, sizes)?;
+    }
+    if store.as_str() != "copies" {
+        time_trail(&rt, sizes)?;
+    }
+    Ok(())
 }

@@ -2,9 +2,9 @@
 ghost use Rattle.std.specs.Prelude.{IsTrue};
 ghost use Rattle.ms_store.specs.Stored.{IsFilled};
 
-use ms_num::Ranges;
+use ms_num::{Iv, Ranges};
 use ms_store::{Cut, Mark, Store};
-use std::alloc::AllocError;
+use std::alloc::{AllocError, Global};
 
 /// Which numbers stay.
 #[derive(Clone, Copy)]
@@ -25,6 +25,31 @@ pub fn cut<S: Store>(store: &mut S, v: u32, change: Change) -> Result<Option<Cut
         Change::OtherThan(n) => store.cut_value(v, n)?,
     };
     Ok(Some(cut))
+}
+
+/// Whether the number is in the variable's set, where there is such a variable.
+pub fn has<S: Store>(store: &S, v: u32, n: i64) -> Option<bool> {
+    if v as usize >= store.vars() {
+        return None;
+    }
+    Some(store.has(v, n))
+}
+
+/// The ends of the variable's set and how many numbers it has, where there is such a variable.
+pub fn seen<S: Store>(store: &S, v: u32) -> Option<(i64, i64, u64)> {
+    if v as usize >= store.vars() {
+        return None;
+    }
+    Some((store.lo(v), store.hi(v), store.size(v)))
+}
+
+/// The numbers from one to another, if there are any within the limits.
+pub fn between(alloc: Global, lo: i64, hi: i64) -> Result<Ranges, AllocError> {
+    let interval = if lo <= hi { Iv::narrow(lo, hi) } else { None };
+    match interval {
+        Some(interval) => Ranges::from_iv(alloc, interval),
+        None => Ok(Ranges::empty(alloc)),
+    }
 }
 
 /// Whether the set has a number.

@@ -1,56 +1,23 @@
-//! Ten thousand calls made from a seed.
+//! Ten thousand calls made from a seed, on a store and on lists of numbers.
 use crate::calls::{self, Change};
+use crate::draws::{CALLS, Draws};
 use crate::lists::Lists;
-use ms_num::{Iv, Ranges};
+use ms_num::Ranges;
 use ms_store::{Copies, Store};
+use ms_trail::Trail;
 use std::alloc::{AllocError, Global};
 use std::process::Abort;
 use std::test::Fail;
 
-const CALLS: u32 = 10_000;
-
-#[derive(Drop)]
-struct Draws {
-    state: u64,
-}
-
-impl Draws {
-    fn next(&mut self) -> u64 {
-        self.state = self
-            .state
-            .wrapping_mul(6364136223846793005)
-            .wrapping_add(1442695040888963407);
-        self.state >> 33
-    }
-
-    // A number from -20 to 59.
-    fn number(&mut self) -> i64 {
-        ((self.next() % 80) as i64).wrapping_sub(20)
-    }
-}
-
-// The numbers from one to at most 60, but for every so-many-th, as a set and as a list.
-fn drawn_set(alloc: Global, draws: &mut Draws) -> Result<(Ranges, Vec<i64>), AllocError> {
-    let lo = draws.number();
-    let hi = draws.number();
-    let (lo, hi) = if lo <= hi { (lo, hi) } else { (hi, lo) };
-    let mut set = match Iv::narrow(lo, hi) {
-        Some(iv) if lo <= hi => Ranges::from_iv(alloc, iv)?,
-        _ => Ranges::empty(alloc),
-    };
-    let step = draws.next() % 5 + 1;
+// The numbers of a set, in order.
+fn numbers_of(alloc: Global, set: &Ranges) -> Result<Vec<i64>, AllocError> {
     let mut list = Vec::new(alloc);
-    for n in lo..60i64 {
-        if n > hi {
-            break;
-        }
-        if n != lo && draws.next() % step == 1 {
-            set = set.without(alloc, n)?;
-        } else {
+    for n in -25..66i64 {
+        if set.has(n) {
             list.push(n)?;
         }
     }
-    Ok((set, list))
+    Ok(list)
 }
 
 fn cuts_are_equal<S: Store>(
@@ -63,6 +30,38 @@ fn cuts_are_equal<S: Store>(
     Ok(lists.cut(v as usize, change)? == cut)
 }
 
+fn write_is_equal<S: Store>(
+    alloc: Global,
+    store: &mut S,
+    lists: &mut Lists,
+    v: u32,
+    draws: &mut Draws,
+) -> Result<bool, AllocError> {
+    let set = draws.set(alloc, 1)?;
+    let is_written = calls::write(store, v, &set)?;
+    if is_written {
+        lists.write(v as usize, numbers_of(alloc, &set)?);
+    }
+    Ok(is_written == (!set.ranges().is_empty() && (v as usize) < lists.now.len()))
+}
+
+fn growth_is_equal<S: Store>(
+    alloc: Global,
+    store: &mut S,
+    lists: &mut Lists,
+    draws: &mut Draws,
+) -> Result<bool, AllocError> {
+    if lists.now.len() >= 6 {
+        return Ok(true);
+    }
+    let set = draws.set(alloc, 1)?;
+    if set.ranges().is_empty() {
+        return Ok(true);
+    }
+    lists.grow(&numbers_of(alloc, &set)?)?;
+    calls::grow(store, set)
+}
+
 // Makes one call on both, and whether both answer the same.
 fn answers_are_equal<S: Store>(
     alloc: Global,
@@ -70,26 +69,16 @@ fn answers_are_equal<S: Store>(
     lists: &mut Lists,
     draws: &mut Draws,
 ) -> Result<bool, AllocError> {
-    let v = (draws.next() % 6) as u32;
-    let n = draws.number();
+    let v = draws.var();
+    let n = draws.number(1);
     match draws.next() % 20 {
         0..=2 => cuts_are_equal(store, lists, v, Change::AtMost(n)),
         3..=5 => cuts_are_equal(store, lists, v, Change::AtLeast(n)),
         6..=11 => cuts_are_equal(store, lists, v, Change::OtherThan(n)),
-        12 | 13 => {
-            let (set, list) = drawn_set(alloc, draws)?;
-            Ok(calls::write(store, v, &set)? == lists.write(v as usize, list))
-        }
+        12 | 13 => write_is_equal(alloc, store, lists, v, draws),
         14 | 15 => Ok(store.mark()?.number == lists.mark()?),
         16 => Ok(calls::undo(store, v as usize) == lists.undo(v as usize)),
-        17 | 18 => {
-            if lists.now.len() >= 6 {
-                return Ok(true);
-            }
-            let (set, list) = drawn_set(alloc, draws)?;
-            lists.grow(&list)?;
-            calls::grow(store, set)
-        }
+        17 | 18 => growth_is_equal(alloc, store, lists, draws),
         _ => Ok(calls::shrink(store, v as usize) == lists.shrink(v as usize)),
     }
 }
@@ -125,4 +114,10 @@ fn drive<S: Store>(rt: &impl Abort, alloc: Global, store: &mut S) -> Result<(), 
 fn copies(rt: HostRuntime) -> Result<(), Fail> {
     let alloc = rt.alloc();
     drive(&rt, alloc, &mut Copies::new(alloc))
+}
+
+#[test]
+fn trail(rt: HostRuntime) -> Result<(), Fail> {
+    let alloc = rt.alloc();
+    drive(&rt, alloc, &mut Trail::new(alloc))
 }
