@@ -1,0 +1,4 @@
+pub mod Outside
+pub mod Placing
+pub mod Steps
+pub mod Values

@@ -1,0 +1,10 @@
+pub mod Access
+pub mod Arrays
+pub mod Calls
+pub mod Cells
+pub mod Conversions
+pub mod Operands
+pub mod Operators
+pub mod Sets
+pub mod Shown
+pub mod Tables
