@@ -1,5 +1,5 @@
 -- Operands of which the worked examples speak: x and y are integer variables of 0..2 and 1..5, b is a Boolean one.
-use Rattle.std.specs.Prelude.{ℕ, ◌-◌, ◌^◌, ℤ, pos, negsuc, Bool, true, false, List, [], ◌∷◌, Option, Some, None, codes}
+use Rattle.std.specs.Prelude.{ℕ, ℤ, pos, negsuc, Bool, true, false, List, [], ◌∷◌, Option, Some, None}
 use Rattle.ms_num.specs.Span.{Span}
 use Rattle.ms_trees.specs.Enclosure.{numeric_enclosure, boolean_enclosure}
 use Rattle.ms_trees.specs.declared.tree.Ground.{Ground}
