@@ -1,0 +1,4 @@
+pub mod Direct
+pub mod Laws
+pub mod Renaming
+pub mod Sample
