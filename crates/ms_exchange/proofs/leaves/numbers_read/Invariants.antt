@@ -1,0 +1,6 @@
+use Rattle.std.proofs.Common.{◌≡◌, map, take}
+use Rattle.ms_exchange.specs.Read as r
+use Rattle.ms_exchange.proofs.leaves.numbers_read.Given as goal
+
+abbrev pub invariant-loop-tree : goal.invariant-loop-tree
+invariant-loop-tree l = l.numbers ≡ map r.number_read (take l.tree-index l.trees)

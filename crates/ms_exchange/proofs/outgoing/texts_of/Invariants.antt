@@ -1,0 +1,8 @@
+use Rattle.std.proofs.Common.{◌≡◌, ◌++◌, length}
+use Rattle.std.specs.Vec.Iter.{into_iter_items, into_iter_len}
+use Rattle.ms_exchange.proofs.outgoing.texts_of.Given as goal
+
+abbrev pub invariant-loop-text : goal.invariant-loop-text
+invariant-loop-text l =
+    (into_iter_len l.text-iterator ≡ length (into_iter_items l.text-iterator))
+    × (l.fn.shared ≡ l.texts.items ++ into_iter_items l.text-iterator)
