@@ -1,0 +1,5 @@
+use Rattle.ms_frames.proofs.Moved.{paired_more}
+use Rattle.ms_frames.proofs.chains.paired.Goals as goal
+
+pub returns-in_ok-push-in-Some : goal.returns-in_ok-push-in-Some
+returns-in_ok-push-in-Some c out here n ws = paired_more out _ _ here _ _ c.in-Some.rest _ _ _ _ c.in-Some.ensures.cases.0 c.in_ok-push-in-Some.ensures.ok
