@@ -1,0 +1,4 @@
+pub mod Folds
+pub mod Entered
+pub mod Bodies
+pub mod Words
