@@ -5,6 +5,8 @@
 //! sets and are within the limits; a branching; and a value for each name that the model declares, in which variables alone
 //! are trees. That is `IsInstance` (`specs/Instances`), which every instance meets. [`Instance::new`] makes one of its parts.
 //!
+//! [`places_of`], [`body_at`] and [`value_at`] are what its readers go by, for those who make one.
+//!
 //! Contracts see it by `text_of`, `sets_of`, `constraints_of` and `values_of` (`specs/Views`). Each reader lends what its name says, and takes
 //! no memory.
 #![tactic(auto)]
@@ -13,4 +15,6 @@ mod bodies;
 mod instance;
 mod places;
 
+pub use bodies::{body_at, known_body_at, value_at};
 pub use instance::{Instance, Parts};
+pub use places::{Places, places_of};
