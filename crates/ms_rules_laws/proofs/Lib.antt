@@ -1,0 +1,10 @@
+pub mod Trees
+pub mod Nodes
+pub mod Parts
+pub mod Known
+pub mod Elements
+pub mod Operators
+pub mod Accesses
+pub mod Functions
+pub mod Limits
+pub mod Rows

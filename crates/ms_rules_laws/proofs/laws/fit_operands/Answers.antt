@@ -1,0 +1,9 @@
+use Rattle.ms_rules_laws.proofs.Elements.{constraints_are_trees}
+use Rattle.ms_rules_laws.proofs.Limits.{nesting_is_own}
+use Rattle.ms_rules_laws.proofs.laws.fit_operands.Goals as goal
+
+pub returns-clause-constraints : goal.returns-clause-constraints
+returns-clause-constraints c = constraints_are_trees
+
+pub returns-clause-nesting : goal.returns-clause-nesting
+returns-clause-nesting c = nesting_is_own
