@@ -18,10 +18,10 @@ use Rattle.ms_rules.specs.Cells.{conditions_of, element, integers_of}
 use Rattle.ms_rules.specs.Operators.{integer}
 use Rattle.ms_rules.specs.Access as a
 use Rattle.ms_rules_laws.specs.Fit.{AreFit, IsCondition, IsFit, IsFitIfAny, IsInteger, IsWithinIfAny}
+use Rattle.ms_rules_laws.specs.Laws.{IsIntegerIfAny}
 use Rattle.ms_rules_laws.proofs.Elements as e
 use Rattle.ms_rules_laws.proofs.Known as k
 use Rattle.ms_rules_laws.proofs.Nodes as t
-use Rattle.ms_rules_laws.proofs.Nodes.{IsIntegerIfAny}
 use Rattle.ms_rules_laws.proofs.Operators as r
 use Rattle.ms_rules_laws.proofs.Parts as l
 

@@ -28,11 +28,8 @@ use Rattle.ms_kept.proofs.Nodes as k
 use Rattle.ms_kept.proofs.Listed as ks
 use Rattle.ms_values.specs.declared.operand.Placed.{Placed}
 use Rattle.ms_rules_laws.specs.Fit.{IsInteger, IsCondition, IsWithinIfAny}
+use Rattle.ms_rules_laws.specs.Laws.{IsIntegerIfAny}
 use Rattle.ms_rules_laws.proofs.Trees as t
-
-abbrev pub IsIntegerIfAny : List Span → Option Placed → Type 0
-IsIntegerIfAny sets None = Unit {0}
-IsIntegerIfAny sets (Some x) = IsInteger sets x
 
 module _ (sets : List Span) where
   abbrev Integers : List Placed → Type 0

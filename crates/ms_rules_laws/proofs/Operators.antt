@@ -17,11 +17,10 @@ use Rattle.ms_rules.specs.Operands.{is_variable, is_logical, number_of, truth_of
 use Rattle.ms_rules.specs.Operators as r
 use Rattle.ms_rules.specs.Sets as s
 use Rattle.ms_rules_laws.specs.Fit.{AreFit, IsCondition, IsFit, IsFitIfAny, IsInteger}
-use Rattle.ms_rules_laws.specs.Laws.{AreFitOperands, KeepsConditions}
+use Rattle.ms_rules_laws.specs.Laws.{AreFitOperands, IsIntegerIfAny, KeepsConditions}
 use Rattle.ms_rules_laws.proofs.Known as k
 use Rattle.ms_rules_laws.proofs.Elements as e
 use Rattle.ms_rules_laws.proofs.Nodes as t
-use Rattle.ms_rules_laws.proofs.Nodes.{IsIntegerIfAny}
 use Rattle.ms_rules_laws.proofs.Parts as l
 
 module _ (sets : List Span) where

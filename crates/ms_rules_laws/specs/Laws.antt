@@ -1,5 +1,5 @@
 -- Each rule makes fit operands of fit ones.
-use Rattle.std.specs.Prelude.{◌≡◌, ◌⊎◌, ℕ, ◌<◌, ◌≤◌, ◌≤ℤ◌, length, pos, nat_le, Bool, true, false, ℤ, List, Option}
+use Rattle.std.specs.Prelude.{◌≡◌, ◌⊎◌, ℕ, ◌<◌, ◌≤◌, ◌≤ℤ◌, length, pos, nat_le, Bool, true, false, ℤ, List, Option, Some, None}
 use Rattle.std.specs.List.{AllByRecursion}
 use Rattle.ms_base.specs.declared.limits.TheConstants.{TREE_NESTING_LIMIT}
 use Rattle.ms_syntax.specs.declared.tree.Operator.{Operator}
@@ -13,6 +13,7 @@ use Rattle.ms_typing.specs.declared.types.Shape.TheVariants as h
 use Rattle.ms_trees.specs.Enclosure.{span_at}
 use Rattle.ms_trees.specs.Size as size
 use Rattle.ms_trees.specs.WellFormed.{is_numeric, is_well_formed}
+use Rattle.ms_trees.specs.declared.extreme.Extreme.{Extreme}
 use Rattle.ms_trees.specs.declared.tree.Ground.{Ground}
 use Rattle.ms_tree_nodes.specs.Kept.{kept_of}
 use Rattle.ms_tree_nodes.specs.Nodes as n
@@ -22,7 +23,7 @@ use Rattle.ms_values.specs.declared.operand.Cells.{Cells}
 use Rattle.ms_values.specs.declared.operand.Kind.{Kind}
 use Rattle.ms_values.specs.declared.operand.Operand.{Operand}
 use Rattle.ms_values.specs.declared.operand.Operand.TheVariants as o
-use Rattle.ms_rules.specs.Operands.{condition_of, known_number}
+use Rattle.ms_rules.specs.Operands.{condition_of, integer_of, known_number}
 use Rattle.ms_rules.specs.Cells.{empty, grown, numbers_of}
 use Rattle.ms_rules.specs.Sets.{ranges_of}
 use Rattle.ms_rules.specs.Operators.{Operands, choice, join, over_operands, signed, with_operand}
@@ -74,10 +75,6 @@ MoreOperandsKeep = (sets : List Span) (f : Bool → Bool → Bool) (xs : Operand
 -- a node over them
 abbrev pub KeepsConditions : List Span → (List Placed → Placed) → Type 0
 KeepsConditions sets node = (xs : List Placed) → AllByRecursion (IsCondition sets) xs → IsCondition sets (node xs)
-
--- over any sets
-abbrev pub NodesKeep : (List Placed → Placed) → Type 0
-NodesKeep node = (sets : List Span) → KeepsConditions sets node
 
 abbrev pub ChainsKeep : Type 0
 ChainsKeep = (sets : List Span) (node : List Placed → Placed) → KeepsConditions sets node → (xs : Operands) → AreFitOperands sets xs → IsFit sets (over_operands node xs)
@@ -131,3 +128,77 @@ NumberLeavesAreFit = (sets : List Span) (m : Option ℤ) → IsWithinIfAny m →
 
 abbrev pub TruthLeavesAreFit : Type 0
 TruthLeavesAreFit = (sets : List Span) (b : Bool) → IsCondition sets (n.truth_leaf b)
+
+-- ---- what is read of an operand, as trees
+
+abbrev pub IntegersReadKeep : Type 0
+IntegersReadKeep = (sets : List Span) (x : Operand) → IsFit sets x → IsInteger sets (integer_of x)
+
+abbrev pub ConditionsReadKeep : Type 0
+ConditionsReadKeep = (sets : List Span) (x : Operand) → IsFit sets x → IsCondition sets (condition_of x)
+
+-- ---- nodes: integer and Boolean trees of such trees
+
+abbrev pub IsIntegerIfAny : List Span → Option Placed → Type 0
+IsIntegerIfAny sets None = Unit {0}
+IsIntegerIfAny sets (Some x) = IsInteger sets x
+
+abbrev pub AreIntegers : List Span → List Placed → Type 0
+AreIntegers sets xs = AllByRecursion (IsInteger sets) xs
+
+-- an integer tree, where it is within the limits
+abbrev pub OperationKeeps : (Placed → Placed → Option Placed) → Type 0
+OperationKeeps f = (sets : List Span) (x y : Placed) → IsInteger sets x → IsInteger sets y → IsIntegerIfAny sets (f x y)
+
+abbrev pub ImageKeeps : (Placed → Option Placed) → Type 0
+ImageKeeps f = (sets : List Span) (x : Placed) → IsInteger sets x → IsIntegerIfAny sets (f x)
+
+abbrev pub FoldKeeps : (List Placed → Option Placed) → Type 0
+FoldKeeps f = (sets : List Span) (xs : List Placed) → AreIntegers sets xs → IsIntegerIfAny sets (f xs)
+
+-- of a list and one tree more
+abbrev pub FoldByOneKeeps : (List Placed → Placed → Option Placed) → Type 0
+FoldByOneKeeps f = (sets : List Span) (xs : List Placed) (y : Placed) → AreIntegers sets xs → IsInteger sets y → IsIntegerIfAny sets (f xs y)
+
+abbrev pub FoldByTwoKeeps : (List Placed → Placed → Placed → Option Placed) → Type 0
+FoldByTwoKeeps f = (sets : List Span) (xs : List Placed) (x y : Placed) → AreIntegers sets xs → IsInteger sets x → IsInteger sets y → IsIntegerIfAny sets (f xs x y)
+
+abbrev pub BitsKeep : Type 0
+BitsKeep = (sets : List Span) (x : Placed) → IsCondition sets x → IsInteger sets (n.bit x)
+
+abbrev pub BranchesKeep : Type 0
+BranchesKeep = (sets : List Span) (c x y : Placed) → IsCondition sets c → IsInteger sets x → IsInteger sets y → IsInteger sets (n.choice c x y)
+
+abbrev pub TruthBranchesKeep : Type 0
+TruthBranchesKeep = (sets : List Span) (c x y : Placed) → IsCondition sets c → IsCondition sets x → IsCondition sets y → IsCondition sets (n.choice_of_truths c x y)
+
+-- a Boolean tree
+abbrev pub DenialKeeps : Type 0
+DenialKeeps = (sets : List Span) (x : Placed) → IsCondition sets x → IsCondition sets (n.denial x)
+
+abbrev pub ConnectiveKeeps : (Placed → Placed → Placed) → Type 0
+ConnectiveKeeps f = (sets : List Span) (x y : Placed) → IsCondition sets x → IsCondition sets y → IsCondition sets (f x y)
+
+abbrev pub ComparisonKeeps : (Placed → Placed → Placed) → Type 0
+ComparisonKeeps f = (sets : List Span) (x y : Placed) → IsInteger sets x → IsInteger sets y → IsCondition sets (f x y)
+
+abbrev pub JunctionKeeps : (List Placed → Placed) → Type 0
+JunctionKeeps f = (sets : List Span) → KeepsConditions sets f
+
+abbrev pub TestKeeps : (List Placed → Placed) → Type 0
+TestKeeps f = (sets : List Span) (xs : List Placed) → AreIntegers sets xs → IsCondition sets (f xs)
+
+abbrev pub ExtremesKeep : Type 0
+ExtremesKeep = (which : Extreme) → FoldKeeps (n.extreme which)
+
+abbrev pub ElementNodesKeep : Type 0
+ElementNodesKeep = (low : ℤ) → FoldByOneKeeps (n.element low)
+
+abbrev pub GridNodesKeep : Type 0
+GridNodesKeep = (low left : ℤ) (width : ℕ) → FoldByTwoKeeps (n.element_of_grid low left width)
+
+abbrev pub MemberNodesKeep : Type 0
+MemberNodesKeep = (rs : List Span) (sets : List Span) (x : Placed) → IsInteger sets x → IsCondition sets (n.member rs x)
+
+abbrev pub RowNodesKeep : Type 0
+RowNodesKeep = (rows : List (List ℤ)) → TestKeeps (n.rowed rows)

@@ -24,8 +24,11 @@ pub fn rules_keep()
     ensures conversions { law.ConversionsKeep }
 {}
 
-/// Does nothing: its contract says what a constraint is, and that the nesting that is tested is that of the tree.
+/// Does nothing: its contract says that what is read of an operand as a tree is fit, what a constraint is, and that the nesting that
+/// is tested is that of the tree.
 pub fn fit_operands()
+    ensures integers { law.IntegersReadKeep }
+    ensures conditions { law.ConditionsReadKeep }
     ensures constraints { law.ConstraintsAreTrees }
     ensures nesting { law.NestingIsOwn }
 {}
@@ -41,10 +44,36 @@ pub fn trees_are_fit()
     ensures booleans { law.BooleanTreesAreFit }
 {}
 
-/// Does nothing: its contract says that a conjunction and a disjunction of any Boolean trees are fit where these are.
-pub fn chains_are_fit()
-    ensures all { law.NodesKeep n.all }
-    ensures some { law.NodesKeep n.some }
+/// Does nothing: its contract says that each node is fit where its parts are, those on numbers where they are within the limits.
+pub fn nodes_keep()
+    ensures sum { law.OperationKeeps n.sum }
+    ensures difference { law.OperationKeeps n.difference }
+    ensures product { law.OperationKeeps n.product }
+    ensures quotient { law.OperationKeeps n.quotient }
+    ensures remainder { law.OperationKeeps n.remainder }
+    ensures negation { law.ImageKeeps n.negation }
+    ensures magnitude { law.ImageKeeps n.magnitude }
+    ensures total { law.FoldKeeps n.total }
+    ensures extreme { law.ExtremesKeep }
+    ensures count { law.FoldByOneKeeps n.count }
+    ensures element { law.ElementNodesKeep }
+    ensures element_of_grid { law.GridNodesKeep }
+    ensures bit { law.BitsKeep }
+    ensures choice { law.BranchesKeep }
+    ensures choice_of_truths { law.TruthBranchesKeep }
+    ensures all { law.JunctionKeeps n.all }
+    ensures some { law.JunctionKeeps n.some }
+    ensures denial { law.DenialKeeps }
+    ensures equivalence { law.ConnectiveKeeps n.equivalence }
+    ensures implication { law.ConnectiveKeeps n.implication }
+    ensures exclusive { law.ConnectiveKeeps n.exclusive }
+    ensures equal { law.ComparisonKeeps n.equal }
+    ensures unequal { law.ComparisonKeeps n.unequal }
+    ensures less { law.ComparisonKeeps n.less }
+    ensures at_most { law.ComparisonKeeps n.at_most }
+    ensures member { law.MemberNodesKeep }
+    ensures distinct { law.TestKeeps n.distinct }
+    ensures rowed { law.RowNodesKeep }
 {}
 
 /// Worked rows: a number within the limits is fit, and one outside is not; a variable over its set is, and over no sets is not;

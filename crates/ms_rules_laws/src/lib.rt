@@ -7,4 +7,4 @@
 
 mod laws;
 
-pub use laws::{chains_are_fit, fit_operands, fit_rows, rules_keep, trees_are_fit};
+pub use laws::{fit_operands, fit_rows, nodes_keep, rules_keep, trees_are_fit};
