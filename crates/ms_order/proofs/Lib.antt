@@ -1,0 +1,6 @@
+mod Closing
+mod Drawn
+mod Needed
+mod Rising
+mod Seeing
+mod Words

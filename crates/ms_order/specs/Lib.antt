@@ -1,0 +1,4 @@
+pub mod Drawing
+pub mod Finding
+pub mod Laws
+pub mod Order

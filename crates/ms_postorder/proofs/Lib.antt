@@ -1,0 +1,3 @@
+pub mod SharedMembers
+mod Moves
+mod Orders
