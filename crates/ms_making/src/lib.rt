@@ -7,11 +7,13 @@
 //! A fault is that of the definition (`AnswersOf`, `ms_made`); want of memory is the only other answer.
 #![tactic(auto)]
 
+mod coming;
 mod constraints;
 mod equations;
 mod handed;
 mod names;
 
+pub use coming::{operand_by, place_given};
 pub use constraints::{Constraints, constrain};
 pub use equations::equate;
 pub use handed::{given_item, typed_data};
