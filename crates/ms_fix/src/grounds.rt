@@ -14,12 +14,12 @@ ghost use Rattle.ms_fix.specs.Answers.{Grounds};
 ghost use Rattle.ms_fix.specs.Around.{around_of, grounded};
 
 use crate::fault::GroundFault;
-use crate::names::{Names, narrow_numbers};
+use crate::names::Names;
 use ms_code::Code;
 use ms_draws::Words;
 use ms_env::{Env, elaborated};
 use ms_exchange::given;
-use ms_instance::Instance;
+use ms_instance::{Instance, narrow_numbers};
 use ms_syntax::Expr;
 use ms_values::{Narrow, Operand, Pile, Value};
 use ms_walk::{Surroundings, placed};

@@ -1,3 +1,5 @@
 pub mod Instances
 pub mod Names
+pub mod Points
+pub mod Reading
 pub mod Views

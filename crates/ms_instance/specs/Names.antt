@@ -1,9 +1,6 @@
 -- What the names that items declare stand for: values, and bodies of functions.
-use Rattle.std.specs.Prelude.{◌≡◌, ℕ, ℤ, pos, Bool, true, false, List, [], ◌∷◌, ◌++◌, map, slice_get, Option, Some, None, option_map, IsTrue}
-use Rattle.std.specs.List.{list_all}
+use Rattle.std.specs.Prelude.{◌≡◌, ℕ, Bool, true, false, List, [], ◌∷◌, slice_get, Option, Some, None}
 use Rattle.ms_num.specs.Span.{Span}
-use Rattle.ms_num.specs.Numbers.{int_eq}
-use Rattle.ms_trees.specs.Value.{value}
 use Rattle.ms_trees.specs.WellFormed.{is_well_formed}
 use Rattle.ms_trees.specs.declared.tree.Ground.{Ground, out-Ground}
 use Rattle.ms_trees.specs.declared.tree.Ground.TheOpen.{Ground-F, Var, BVar}
@@ -11,7 +8,6 @@ use Rattle.ms_typing.specs.declared.types.ExprType.{ExprType}
 use Rattle.ms_typing.specs.Meaning.{Globals, Meaning}
 use Rattle.ms_typing.specs.Meaning as m
 use Rattle.ms_code.specs.declared.code.Code.{Code}
-use Rattle.ms_code.specs.declared.item.Function.{Function}
 use Rattle.ms_code.specs.declared.item.Item.{Item}
 use Rattle.ms_code.specs.declared.item.Item.TheVariants as i
 use Rattle.ms_tree_nodes.specs.Kept.{IsKept}

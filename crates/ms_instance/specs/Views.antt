@@ -1,20 +1,20 @@
 -- What contracts see of an instance.
-use Rattle.std.specs.Prelude.{ℕ, List, slice_get, Option, Some, None}
+use Rattle.std.specs.Prelude.{List, slice_get, Option, None}
 use Rattle.ms_num.specs.Span.{Span}
 use Rattle.ms_trees.specs.declared.tree.Ground.{Ground}
-use Rattle.ms_code.specs.Items.{items_code}
 use Rattle.ms_code.specs.declared.code.Code.{Code}
 use Rattle.ms_code.specs.declared.code.Reference.{Reference}
 use Rattle.ms_code.specs.declared.code.Reference.TheVariants as r
 use Rattle.ms_code.specs.declared.item.Item.{Item}
 use Rattle.ms_items.specs.Declaring.{declarers}
-use Rattle.ms_types.specs.Texts.{model_of, library_of, names_among}
+use Rattle.ms_types.specs.Texts.{model_of, library_of}
 use Rattle.ms_types.specs.declared.typed.Typed.{Typed}
 use Rattle.ms_values.specs.declared.operand.Operand.{Operand}
 use Rattle.ms_rules.specs.Calls.{nothing}
 use Rattle.ms_instance.specs.declared.instance.Instance.{Instance}
 use Rattle.ms_instance.specs.Instances.{intervals_of}
 use Rattle.ms_instance.specs.Names.{body_at, value_or_nothing}
+pub use Rattle.ms_instance.specs.Reading.{model_items, library_items}
 
 abbrev pub text_of : Instance → Typed
 text_of i = i.typed
@@ -39,12 +39,6 @@ value_in i (r.Library k) = nothing
 value_in i (r.BuiltIn b) = nothing
 
 -- ---- bodies of functions
-
-abbrev pub model_items : Typed → List Item
-model_items t = items_code (names_among t) (model_of t).0
-
-abbrev pub library_items : Typed → List Item
-library_items t = items_code (names_among t) (library_of t).0
 
 abbrev pub read_in : (Item → Option Code) → Typed → Reference → Option Code
 read_in read t (r.Local k) = None

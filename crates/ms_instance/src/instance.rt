@@ -1,17 +1,25 @@
 //! Instances and their parts.
 
-ghost use Rattle.std.specs.Prelude.{◌≡◌};
+ghost use Rattle.std.specs.Prelude.{◌≡◌, IfOk};
 ghost use Rattle.ms_items.specs.Declaring.{declarers};
 ghost use Rattle.ms_types.specs.Texts.{model_of, library_of, names_among};
 ghost use Rattle.ms_instance.specs.Instances.{IsInstance};
+ghost use Rattle.ms_instance.specs.Reading.{model_items, output_places, shown_among};
 
 use crate::bodies::{body_at, known_body_at, value_at};
+use crate::goal::{goal_in, output_at, output_places};
 use crate::places::{Places, places_of};
-use ms_code::{Code, Reference};
+use crate::point::{known_at, narrow_numbers};
+use crate::shown::shown_names;
+use ms_base::Bytes;
+use ms_code::{Code, Goal, Reference};
+use ms_exchange::given;
 use ms_num::Ranges;
+use ms_syntax::{Place, Word};
 use ms_trees::{Branching, Ground, Trees};
 use ms_types::Typed;
-use ms_values::{Elements, Operand};
+use ms_values::{Elements, Narrow, Operand, Value};
+use sqlite_items::at;
 use std::alloc::{AllocError, Global};
 
 /// A model with its variables, constraints and values. Contracts see it by `specs/Views`.
@@ -21,6 +29,10 @@ pub struct Instance {
     // For each name that the items declare, the place of the item.
     pub(crate) model_places: Vec<usize>,
     pub(crate) library_places: Vec<usize>,
+    // The places of the output items.
+    pub(crate) outputs: Vec<usize>,
+    // The names of the variables.
+    pub(crate) shown: Vec<Bytes>,
     pub(crate) sets: Vec<Ranges>,
     pub(crate) constraints: Trees,
     pub(crate) branching: Branching,
@@ -28,7 +40,25 @@ pub struct Instance {
     pub(crate) values: Elements<Operand>,
     pub ghost model_declares: { model_places.items ≡ declarers 0 (model_of typed).0 },
     pub ghost library_declares: { library_places.items ≡ declarers 0 (library_of typed).0 },
+    pub ghost outputs_stand: { outputs.items ≡ output_places 0 (model_items typed) },
+    pub ghost variables: { shown.items ≡ shown_among (model_of typed).0 },
     pub ghost fit: { ∥ IsInstance (names_among typed).model sets.items constraints branching.order values ∥₁ },
+}
+
+// The output items and the names of the variables.
+#[derive(Drop)]
+struct Readings {
+    outputs: Vec<usize>,
+    shown: Vec<Bytes>,
+}
+
+fn readings_of(alloc: Global, typed: &Typed) -> Result<Readings, AllocError>
+    ensures outputs { IfOk result (λ r. r.outputs.items ≡ output_places 0 (model_items typed.now)) }
+    ensures shown { IfOk result (λ r. r.shown.items ≡ shown_among (model_of typed.now).0) }
+{
+    let outputs = output_places(alloc, typed.items())?;
+    let shown = shown_names(alloc, typed.tree().items.as_slice())?;
+    Ok(Readings { outputs, shown })
 }
 
 /// What an instance is made of.
@@ -43,16 +73,22 @@ pub struct Parts {
 }
 
 impl Instance {
-    ghost use Rattle.std.specs.Prelude.{length, IfOk};
+    ghost use Rattle.std.specs.Prelude.{length, slice_get, IfOk, IsTrue, Some};
+    ghost use Rattle.std.specs.List.{list_all};
+    ghost use Rattle.ms_num.specs.Span.{is_within};
     ghost use Rattle.std.specs.Option.{option_copied};
     ghost use Rattle.ms_instance.specs.Names.{body_of, known_body_of};
+    ghost use Rattle.ms_instance.specs.Points.{given_at, value_on};
+    ghost use Rattle.ms_instance.specs.Reading.{goal_in as goal_of, outputs_in, shown_in};
     ghost use Rattle.ms_instance.specs.Views.{constraints_of, read_in, sets_of, text_of, value_in, values_of};
 
     // The parts, with the items that declare the names.
-    fn made(typed: Typed, parts: Parts, places: Places) -> Instance
+    fn made(typed: Typed, parts: Parts, places: Places, readings: Readings) -> Instance
         requires fit { IsInstance (names_among typed).model parts.sets.items parts.constraints parts.branching.order parts.values }
         requires model { places.model.items ≡ declarers 0 (model_of typed).0 }
         requires library { places.library.items ≡ declarers 0 (library_of typed).0 }
+        requires outputs { readings.outputs.items ≡ output_places 0 (model_items typed) }
+        requires shown { readings.shown.items ≡ shown_among (model_of typed).0 }
         ensures text { text_of result ≡ typed }
         ensures sets { sets_of result ≡ parts.sets.items }
         ensures constraints { constraints_of result ≡ parts.constraints }
@@ -66,10 +102,13 @@ impl Instance {
             values,
         } = parts;
         let Places { model, library } = places;
+        let Readings { outputs, shown } = readings;
         Instance {
             typed,
             model_places: model,
             library_places: library,
+            outputs,
+            shown,
             sets,
             constraints,
             branching,
@@ -87,7 +126,8 @@ impl Instance {
         ensures values { IfOk result (λ i. values_of i ≡ parts.values) }
     {
         let places = places_of(alloc, &typed)?;
-        Ok(Instance::made(typed, parts, places))
+        let readings = readings_of(alloc, &typed)?;
+        Ok(Instance::made(typed, parts, places, readings))
     }
 
     /// The model beside the library, with the typed trees of their items.
@@ -176,6 +216,76 @@ impl Instance {
                 number,
             ),
             Reference::Local(_) | Reference::BuiltIn(_) => None,
+        }
+    }
+
+    /// What the solve item asks for.
+    pub fn goal(&self) -> &Goal
+        ensures { Some result.now ≡ goal_of (text_of self.now) }
+    {
+        goal_in(&self.typed)
+    }
+
+    /// How many output items there are.
+    #[tactic(auto, using(crate::proofs::Outputs::output_count))]
+    pub fn outputs(&self) -> usize
+        ensures { result ≡ length (outputs_in (text_of self.now)) }
+    {
+        self.outputs.len()
+    }
+
+    /// The typed tree of the output item with this number, in the order of the items.
+    pub fn output(&self, item: usize) -> Option<&Code>
+        ensures { option_copied result ≡ slice_get (outputs_in (text_of self.now)) item }
+    {
+        output_at(self.typed.items(), self.outputs.as_slice(), item)
+    }
+
+    /// The names of the declared variables and arrays of variables, in their order.
+    pub fn shown(&self) -> &[Bytes]
+        ensures { result.now ≡ shown_in (text_of self.now) }
+    {
+        self.shown.as_slice()
+    }
+
+    // The value of a name with this number, where the variables have these numbers.
+    fn value_at_point(
+        &self,
+        alloc: Global,
+        number: usize,
+        point: &[Narrow],
+    ) -> Result<Option<Value>, AllocError>
+        ensures { IfOk result (λ v. v ≡ given_at self.now point.now number) }
+    {
+        match at(self.values.as_slice(), number) {
+            None => Ok(None),
+            Some(x) => given(alloc, known_at(alloc, point, x)?),
+        }
+    }
+
+    /// The value of a declared name where the variables have these numbers. None for a name that the model does not declare,
+    /// for a function, and where there is no value.
+    pub fn value(
+        &self,
+        alloc: Global,
+        name: &[u8],
+        point: &[i64],
+    ) -> Result<Option<Value>, AllocError>
+        requires { IsTrue (list_all is_within point.now) }
+        ensures { IfOk result (λ v. v ≡ value_on self.now name.now point.now) }
+    {
+        let place = Place {
+            file: 0,
+            line: 1,
+            col: 1,
+        };
+        let word = Word::from_slice(alloc, name)?;
+        match self.typed.names().assigned(place, &word) {
+            None => Ok(None),
+            Some((number, _)) => {
+                let numbers = narrow_numbers(alloc, point)?;
+                self.value_at_point(alloc, number, numbers.as_slice())
+            }
         }
     }
 }

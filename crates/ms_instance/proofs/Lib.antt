@@ -1,0 +1,3 @@
+mod Outputs
+mod Solved
+mod Within
