@@ -56,6 +56,7 @@ impl<T: Copy> Cells<T> {
         self.marks.len()
     }
 
+    #[inline(always)]
     pub fn get(&self, at: u32) -> T
         requires { at < length self.now.current }
         ensures { slice_get self.now.current at ≡ Some result }
@@ -64,6 +65,7 @@ impl<T: Copy> Cells<T> {
     }
 
     /// Some of the values, one behind the other.
+    #[inline(always)]
     pub fn slice(&self, start: usize, len: usize) -> &[T]
         requires { start + len ≤ length self.now.current }
         ensures value { result.now ≡ take len (drop start self.now.current) }
@@ -73,13 +75,15 @@ impl<T: Copy> Cells<T> {
     }
 
     /// Writes the current list.
+    #[inline(always)]
     pub fn set(&mut self, at: u32, value: T) -> Result<(), AllocError>
         requires { at < length self.old.current }
         ensures ok { OnOk result (self.new ≡ record self.old { current = slice_set self.old.current at value }) }
         ensures err { OnErr result (self.new ≡ self.old) }
     {
+        self.taken.reserve(1)?;
         let before = self.current[at as usize];
-        self.taken.push((at, before))?;
+        self.taken.push_reserved((at, before));
         self.reach = further(self.reach, at);
         self.current[at as usize] = value;
         Ok(())
@@ -155,6 +159,7 @@ impl<T: Copy> Cells<T> {
 }
 
 // A bound above this place too.
+#[inline(always)]
 fn further(reach: usize, at: u32) -> usize
     ensures least { reach ≤ result }
     ensures above { at < result }

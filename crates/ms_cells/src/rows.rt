@@ -65,6 +65,7 @@ impl<T: Copy> RowCells<T> {
     }
 
     /// The value of a cell.
+    #[inline(always)]
     pub fn get(&self, at: u32) -> T
         requires { at < length self.now.current }
         ensures { (d : T × List ℕ) → (slice_index_or self.now.current at d).0 ≡ result }
@@ -73,6 +74,7 @@ impl<T: Copy> RowCells<T> {
     }
 
     /// The row of a cell.
+    #[inline(always)]
     pub fn row(&self, at: u32) -> &[u64]
         requires { at < length self.now.current }
         ensures value { (d : T × List ℕ) → (slice_index_or self.now.current at d).1 ≡ result.now }
@@ -83,6 +85,7 @@ impl<T: Copy> RowCells<T> {
     }
 
     /// Writes the value of a cell.
+    #[inline(always)]
     pub fn set(&mut self, at: u32, value: T) -> Result<(), AllocError>
         requires { at < length self.old.current }
         ensures ok { (d : T × List ℕ) → OnOk result (self.new ≡ record self.old { current = slice_set self.old.current at (value, (slice_index_or self.old.current at d).1) }) }
@@ -92,6 +95,7 @@ impl<T: Copy> RowCells<T> {
     }
 
     /// Writes a word of a cell's row.
+    #[inline(always)]
     pub fn set_word(&mut self, at: u32, i: usize, word: u64) -> Result<(), AllocError>
         requires there { at < length self.old.current }
         requires inside { (d : T × List ℕ) → i < length (slice_index_or self.old.current at d).1 }

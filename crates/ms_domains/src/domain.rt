@@ -31,6 +31,7 @@ pub struct Domain {
 }
 
 // How far the second number is above the first.
+#[inline(always)]
 pub(crate) fn distance(from: i64, to: i64) -> u64
     requires { IsInterval (record { lo = from; hi = to }) }
     ensures { pos result ≡ to -ℤ from }
@@ -39,6 +40,7 @@ pub(crate) fn distance(from: i64, to: i64) -> u64
 }
 
 // The number that is so far above.
+#[inline(always)]
 fn above(from: i64, by: u64) -> i64
     requires { IsInterval (record { lo = from; hi = from +ℤ pos by }) }
     ensures { result ≡ from +ℤ pos by }
@@ -48,6 +50,7 @@ fn above(from: i64, by: u64) -> i64
 
 impl Domain {
     /// Every number from one to another.
+    #[inline(always)]
     pub fn between(lo: i64, hi: i64) -> Domain
         requires { IsInterval (record { lo = lo; hi = hi }) }
         ensures lo { result.lo ≡ lo }
@@ -80,6 +83,7 @@ impl Domain {
     }
 
     /// The numbers up to `n`, of a set that is in no list of ranges.
+    #[inline(always)]
     pub fn at_most(self, row: &[u64], n: i64) -> Domain
         requires proper { IsDomain [] row.now self }
         requires few { length row.now < 2 ^ 32 }
@@ -97,6 +101,7 @@ impl Domain {
     }
 
     /// The numbers from `n` on, of such a set.
+    #[inline(always)]
     pub fn at_least(self, row: &[u64], n: i64) -> Domain
         requires proper { IsDomain [] row.now self }
         requires few { length row.now < 2 ^ 32 }
@@ -114,6 +119,7 @@ impl Domain {
     }
 
     /// Whether the domain itself has room for a hole at the number.
+    #[inline(always)]
     pub fn has_room(self, row: &[u64], n: i64) -> bool
         requires proper { IsDomain [] row.now self }
         requires low { self.lo <ℤ n }
@@ -129,6 +135,7 @@ impl Domain {
     }
 
     /// The set without a number between its ends, where the domain has room for that hole.
+    #[inline(always)]
     pub fn without(self, row: &[u64], n: i64) -> Domain
         requires proper { IsDomain [] row.now self }
         requires low { self.lo <ℤ n }
@@ -147,6 +154,7 @@ impl Domain {
     }
 
     // One more hole.
+    #[inline(always)]
     fn hole(self, row: &[u64], n: i64) -> Holes
         requires proper { IsDomain [] row.now self }
         requires low { self.lo <ℤ n }
@@ -174,6 +182,7 @@ impl Domain {
 }
 
 // The numbers up to `n` of a set whose numbers are in words that begin at `base`.
+#[inline(never)]
 fn up_to<W: Words>(set: Domain, base: i64, words: W, n: i64) -> Domain
     requires set { IsRowSet set (W.as_row words) base }
     requires low { set.lo ≤ℤ n }
@@ -192,6 +201,7 @@ fn up_to<W: Words>(set: Domain, base: i64, words: W, n: i64) -> Domain
 }
 
 // The numbers from `n` on of such a set.
+#[inline(never)]
 fn from<W: Words>(set: Domain, base: i64, words: W, n: i64) -> Domain
     requires set { IsRowSet set (W.as_row words) base }
     requires low { set.lo <ℤ n }

@@ -107,6 +107,7 @@ impl Domain {
     }
 
     /// The same set with another word of its row in front, that of the number.
+    #[inline(always)]
     pub fn moved(self, row: &[u64], n: i64) -> Domain
         requires proper { IsDomain [] row.now self }
         requires written { IsWritten row.now self.holes }

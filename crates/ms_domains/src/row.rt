@@ -2,6 +2,7 @@ ghost use Rattle.std.specs.Prelude.{◌≡◌, ◌+◌, ◌-◌, ◌*◌, ◌/�
 ghost use Rattle.ms_domains.specs.Row.{in_row, row_count, IsLast, IsFirst};
 
 // The word of that place, where one word stands for the one that the row has at `at`.
+#[inline(always)]
 fn word(row: &[u64], at: usize, bits: u64, i: usize) -> u64
     requires { i < length row.now }
     ensures { result ≡ slice_index (slice_set row.now at bits) i }
@@ -10,6 +11,7 @@ fn word(row: &[u64], at: usize, bits: u64, i: usize) -> u64
 }
 
 /// Whether the number is in the row, in which one word stands for the one at `at`.
+#[inline(always)]
 pub fn has(row: &[u64], at: usize, bits: u64, k: u64) -> bool
     requires { k < 64 * length row.now }
     ensures { result ≡ in_row (slice_set row.now at bits) k }

@@ -3,6 +3,7 @@ ghost use Rattle.ms_num.specs.Numbers.{int_eq};
 ghost use Rattle.ms_num.specs.Ranges.{IsRanges, is_member};
 ghost use Rattle.ms_num.specs.Sets.{set_of};
 ghost use Rattle.ms_store.specs.Stored.{set_at, at_most, at_least, other_than, Cuts, IsFilled};
+ghost use Rattle.ms_store.specs.CutGives.{CutGives};
 ghost use Rattle.ms_domains.specs.Domains.{IsFree};
 ghost use Rattle.ms_trail.specs.Trailed.{sets_of, slot_at, IsAt};
 
@@ -10,10 +11,66 @@ use crate::spread::{after, before, place_of};
 use crate::trail::Trail;
 use ms_domains::Domain;
 use ms_num::{Iv, Ranges, cut_law};
+use ms_store::Cut;
 use std::alloc::AllocError;
 
 // Cuts of a variable whose domain has been read, where some numbers go and some stay.
 impl Trail {
+    // The numbers above `n` go, of any set.
+    #[inline(never)]
+    pub(crate) fn at_most(&mut self, v: u32, n: i64) -> Result<Cut, AllocError>
+        requires { v < length (sets_of self.old).current }
+        ensures ok { IfOk result (λ cut. CutGives cut (at_most n) v (sets_of self.old) (sets_of self.new)) }
+        ensures err { OnErr result (sets_of self.new ≡ sets_of self.old) }
+    {
+        let domain = self.domain(v);
+        if domain.hi <= n {
+            return Ok(Cut::Kept);
+        }
+        if n < domain.lo {
+            return Ok(Cut::Emptied);
+        }
+        self.keep_at_most(v, domain, n)?;
+        Ok(Cut::Changed)
+    }
+
+    // The numbers below `n` go, of any set.
+    #[inline(never)]
+    pub(crate) fn at_least(&mut self, v: u32, n: i64) -> Result<Cut, AllocError>
+        requires { v < length (sets_of self.old).current }
+        ensures ok { IfOk result (λ cut. CutGives cut (at_least n) v (sets_of self.old) (sets_of self.new)) }
+        ensures err { OnErr result (sets_of self.new ≡ sets_of self.old) }
+    {
+        let domain = self.domain(v);
+        if n <= domain.lo {
+            return Ok(Cut::Kept);
+        }
+        if domain.hi < n {
+            return Ok(Cut::Emptied);
+        }
+        self.keep_at_least(v, domain, n)?;
+        Ok(Cut::Changed)
+    }
+
+    // The number goes, of any set.
+    #[inline(never)]
+    pub(crate) fn other_than(&mut self, v: u32, n: i64) -> Result<Cut, AllocError>
+        requires { v < length (sets_of self.old).current }
+        ensures ok { IfOk result (λ cut. CutGives cut (other_than n) v (sets_of self.old) (sets_of self.new)) }
+        ensures err { OnErr result (sets_of self.new ≡ sets_of self.old) }
+    {
+        let domain = self.domain(v);
+        if !self.holds(v, domain, n) {
+            return Ok(Cut::Kept);
+        }
+        if domain.lo == domain.hi {
+            return Ok(Cut::Emptied);
+        }
+        self.keep_others(v, domain, n)?;
+        Ok(Cut::Changed)
+    }
+
+    #[inline(always)]
     pub(crate) fn holds(&self, v: u32, domain: Domain, n: i64) -> bool
         requires there { v < length (sets_of self.now).current }
         requires read { IsAt self.now v domain (slot_at self.now v).1 }
@@ -23,6 +80,7 @@ impl Trail {
     }
 
     // The variable gets this set, as a list of ranges.
+    #[inline(never)]
     pub(crate) fn put_list(&mut self, v: u32, set: Ranges) -> Result<(), AllocError>
         requires there { v < length (sets_of self.old).current }
         requires filled { IsFilled set }
@@ -35,6 +93,7 @@ impl Trail {
     }
 
     // The variable gets this set.
+    #[inline(never)]
     pub(crate) fn put(&mut self, v: u32, set: Ranges) -> Result<(), AllocError>
         requires there { v < length (sets_of self.old).current }
         requires filled { IsFilled set }
@@ -49,6 +108,7 @@ impl Trail {
         Ok(())
     }
 
+    #[inline(always)]
     pub(crate) fn keep_at_most(&mut self, v: u32, domain: Domain, n: i64) -> Result<(), AllocError>
         requires there { v < length (sets_of self.old).current }
         requires read { IsAt self.old v domain (slot_at self.old v).1 }
@@ -72,6 +132,7 @@ impl Trail {
         }
     }
 
+    #[inline(always)]
     pub(crate) fn keep_at_least(&mut self, v: u32, domain: Domain, n: i64) -> Result<(), AllocError>
         requires there { v < length (sets_of self.old).current }
         requires read { IsAt self.old v domain (slot_at self.old v).1 }
@@ -117,7 +178,8 @@ impl Trail {
     }
 
     // The same of a number between the ends.
-    fn cut_inside(&mut self, v: u32, domain: Domain, n: i64) -> Result<(), AllocError>
+    #[inline(always)]
+    pub(crate) fn cut_inside(&mut self, v: u32, domain: Domain, n: i64) -> Result<(), AllocError>
         requires there { v < length (sets_of self.old).current }
         requires read { IsAt self.old v domain (slot_at self.old v).1 }
         requires held { (set_at (sets_of self.old) v).has n ≡ true }
@@ -142,6 +204,7 @@ impl Trail {
     }
 
     // The variable's set, whose holes stand in no word, without a number.
+    #[inline(never)]
     fn ranges_without(&self, v: u32, domain: Domain, n: i64) -> Result<Ranges, AllocError>
         requires there { v < length (sets_of self.now).current }
         requires read { IsAt self.now v domain (slot_at self.now v).1 }

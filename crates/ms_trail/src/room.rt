@@ -11,6 +11,7 @@ use std::alloc::AllocError;
 // Room for holes. No set changes here, only what it is kept in.
 impl Trail {
     // A domain of the variable's set that has room for a hole at the number, where its row has.
+    #[inline(always)]
     pub(crate) fn roomy(
         &mut self,
         v: u32,
@@ -45,6 +46,7 @@ impl Trail {
     }
 
     // The same of a set whose holes stand in no word yet.
+    #[inline(never)]
     pub(crate) fn opened(
         &mut self,
         v: u32,

@@ -8,6 +8,7 @@ use ms_domains::{Domain, Holes};
 use ms_num::Ranges;
 
 /// The place of the list of ranges that has the holes, if they are in one.
+#[inline(always)]
 pub(crate) fn place_of(holes: Holes) -> Option<usize>
     ensures { IsPlaceOf holes result }
 {

@@ -8,7 +8,7 @@ ghost use Rattle.ms_store.specs.Stored.{set_at, IsFilled};
 ghost use Rattle.ms_trail.specs.Trailed.{Trailed, sets_of, slot_at, written, IsAt, IsSlot, Extends};
 
 use ms_cells::RowCells;
-use ms_domains::Domain;
+use ms_domains::{Domain, Holes};
 use ms_num::Ranges;
 use ms_store::{Cut, Mark, Store};
 use std::alloc::{AllocError, Global};
@@ -65,6 +65,7 @@ impl Trail {
         self.alloc
     }
 
+    #[inline(always)]
     pub(crate) fn lists(&self) -> &[Ranges]
         ensures { result.now ≡ self.now.ranges }
     {
@@ -72,6 +73,7 @@ impl Trail {
     }
 
     // The variable's domain.
+    #[inline(always)]
     pub(crate) fn domain(&self, v: u32) -> Domain
         requires { v < length (sets_of self.now).current }
         ensures { IsAt self.now v result (slot_at self.now v).1 }
@@ -80,6 +82,7 @@ impl Trail {
     }
 
     // The variable's row.
+    #[inline(always)]
     pub(crate) fn row(&self, v: u32) -> &[u64]
         requires { v < length (sets_of self.now).current }
         ensures value { result.now ≡ (slot_at self.now v).1 }
@@ -89,6 +92,7 @@ impl Trail {
     }
 
     // The variable gets another domain.
+    #[inline(always)]
     pub(crate) fn set_domain(&mut self, v: u32, domain: Domain) -> Result<(), AllocError>
         requires there { v < length (sets_of self.old).current }
         requires proper { IsDomain self.old.ranges (slot_at self.old v).1 domain }
@@ -100,6 +104,7 @@ impl Trail {
     }
 
     // A word of the variable's row becomes another.
+    #[inline(always)]
     pub(crate) fn set_word(&mut self, v: u32, i: usize, word: u64) -> Result<(), AllocError>
         requires there { v < length (sets_of self.old).current }
         requires inside { i < length (slot_at self.old v).1 }
@@ -170,38 +175,38 @@ impl Store for Trail {
 
     fn cut_at_most(&mut self, v: u32, n: i64) -> Result<Cut, AllocError> {
         let domain = self.domain(v);
-        if domain.hi <= n {
-            return Ok(Cut::Kept);
+        if let Holes::Whole = domain.holes {
+            if domain.lo <= n && n < domain.hi {
+                self.keep_at_most(v, domain, n)?;
+                return Ok(Cut::Changed);
+            }
         }
-        if n < domain.lo {
-            return Ok(Cut::Emptied);
-        }
-        self.keep_at_most(v, domain, n)?;
-        Ok(Cut::Changed)
+        self.at_most(v, n)
     }
 
     fn cut_at_least(&mut self, v: u32, n: i64) -> Result<Cut, AllocError> {
         let domain = self.domain(v);
-        if n <= domain.lo {
-            return Ok(Cut::Kept);
+        if let Holes::Whole = domain.holes {
+            if domain.lo < n && n <= domain.hi {
+                self.keep_at_least(v, domain, n)?;
+                return Ok(Cut::Changed);
+            }
         }
-        if domain.hi < n {
-            return Ok(Cut::Emptied);
-        }
-        self.keep_at_least(v, domain, n)?;
-        Ok(Cut::Changed)
+        self.at_least(v, n)
     }
 
     fn cut_value(&mut self, v: u32, n: i64) -> Result<Cut, AllocError> {
         let domain = self.domain(v);
-        if !self.holds(v, domain, n) {
-            return Ok(Cut::Kept);
+        if let Holes::Row { .. } = domain.holes {
+            if domain.lo < n && n < domain.hi {
+                if !self.holds(v, domain, n) {
+                    return Ok(Cut::Kept);
+                }
+                self.cut_inside(v, domain, n)?;
+                return Ok(Cut::Changed);
+            }
         }
-        if domain.lo == domain.hi {
-            return Ok(Cut::Emptied);
-        }
-        self.keep_others(v, domain, n)?;
-        Ok(Cut::Changed)
+        self.other_than(v, n)
     }
 
     fn write(&mut self, v: u32, set: &Ranges) -> Result<(), AllocError> {
