@@ -53,6 +53,12 @@ use Rattle.ms_frames.proofs.Folds.{link_is, subscript_is, arm_is, row_is, genera
 pub shows : (out : Outside) (o o' : Out) (r : Result Task PlaceFault) (fs : List Frame) (here : Here) (n : ℕ) (ws : List ℕ) → o ≡ o' → Goes out o' r fs here n ws → Goes out o r fs here n ws
 shows out o o' r fs here n ws h g = rw h g
 
+-- ---- ends of lists
+
+pub none_left : {X : Type 0} (xs : List X) → length xs ≡ 0 → xs ≡ []
+none_left [] h = refl
+none_left (x ∷ xs) h = absurd (cc)
+
 -- ---- chains
 
 pub paired_more : (out : Outside) (fs fs' : List Frame) (here : Here) (ls : List Link) (first : Link) (rest : Bor (List Link)) (q : Place) (x : Operand) (n : ℕ) (ws : List ℕ)
@@ -130,6 +136,10 @@ pub filled_more : (out : Outside) (fs fs' : List Frame) (here : Here) (end : End
 unfolding resume back
 filled_more out fs fs' here end cs es first rest n ws h k = rw (h, k) refl
 
+pub none_filled : (out : Outside) (here : Here) (end : End) (cs : Cells) (es : List Code) (k : Rest) (n : ℕ) (ws : List ℕ) → length es ≡ 0
+    → filled_in out end here cs es k n ws ≡ ended out end here cs k n ws
+none_filled out here end cs es k n ws h = rw (none_left es h) refl
+
 pub gathered_more : (out : Outside) (fs fs' : List Frame) (here : Here) (q : Place) (name : Reference) (xs : List Operand) (es : List Code) (first : Bor Code) (rest : Bor (List Code)) (n : ℕ) (ws : List ℕ)
     → es ≡ first.now ∷ rest.now → fs' ≡ w.Argument q name xs rest ∷ fs
     → gathered (parts out here.calls es) here.names xs (λ ys. calls out here.calls q name ys (resume out fs here)) n ws ≡ run_in out here first.now (resume out fs' here) n ws
@@ -148,12 +158,6 @@ pub next_row : (out : Outside) (here : Here) (q : Place) (count width : ℕ) (ro
     ≡ filled_in out (e.Rows q count width rest) here cs es k n ws
 next_row out here q count width rows first rest cs es k n ws h i =
     rw (h, i) (ap (λ (r : List Part). filled_rows (r ∷ rows_in out here.calls rest.now) here.names cs (λ more. visit q (Some (grid_from_one count width more)) k) n ws) (row_is out (calls out here.calls) first))
-
--- ---- ends of lists
-
-pub none_left : {X : Type 0} (xs : List X) → length xs ≡ 0 → xs ≡ []
-none_left [] h = refl
-none_left (x ∷ xs) h = absurd (cc)
 
 -- ---- how a chain groups
 
@@ -185,6 +189,13 @@ turns_on out here plan it it' its its' k z zs made old n ws names' next h l i j 
     rw (h, l, j, i, a, b) (ap (λ (f : Maker). f (v.Number (Some z) ∷ here.names) made (resumed out plan (record it { numbers = zs } ∷ its) (bind (v.Number (Some z)) here) k) n ws)
     (through_is out here.calls plan it.place it.names it.set it.inner))
 
+pub turns_held : (out : Outside) (here : Here) (m m' : Making) (it it' : Turn) (k : Here → Rest) (z : ℤ) (zs : List ℤ) (old n : ℕ) (ws : List ℕ) (names' : List Operand) (next : Option Turn)
+    → it.numbers ≡ z ∷ zs → old ≡ suc n → it' ≡ record it { numbers = zs } → m' ≡ record m { turns = it' ∷ m.turns } → names' ≡ v.Number (Some z) ∷ here.names → next ≡ further it.place it.names it.set it.inner
+    → turns_in out here.calls m.plan it here.names (made_of m) (resumed out m.plan m.turns here k) old ws
+    ≡ deeper out here.calls m'.plan next it.inner.now names' (made_of m') (resumed out m'.plan m'.turns (record { calls = here.calls; names = names' }) k) n ws
+turns_held out here m m' it it' k z zs old n ws names' next h l i j a b =
+    rw j (turns_on out here m.plan it it' m.turns (it' ∷ m.turns) k z zs (made_of m) old n ws names' next h l i refl a b)
+
 pub turns_stop : (out : Outside) (fs fs' : List Frame) (here here' : Here) (plan : Plan) (it : Turn) (made : Made) (k : Made → Step) (z : ℤ) (zs : List ℤ) (old n : ℕ) (ws : List ℕ) (fault : PlaceFault)
     → it.numbers ≡ z ∷ zs → (fault ≡ f.Big count.Steps it.place) × ((old ≡ 0) × (n ≡ 0))
     → Goes out (turns_in out here.calls plan it here.names made k old ws) (Err fault) fs' here' n ws
@@ -204,6 +215,13 @@ pub pair_pushed : (out : Outside) (fs fs' : List Frame) (here : Here) (q o : Pla
     → back_chain out (l.Right q operator x ls) here o y (resume out fs) n ws ≡ visit q z (resume out fs' here) n ws
 unfolding resume back back_chain
 pair_pushed out fs fs' here q o operator x y z ls n ws h k = rw (h, k) refl
+
+pub last_pair : (out : Outside) (fs : List Frame) (here : Here) (q o : Place) (operator : Operator) (x y : Operand) (z : Option Operand) (ls : Bor (List Link)) (n : ℕ) (ws : List ℕ)
+    → z ≡ join operator x y → length ls.now ≡ 0
+    → back_chain out (l.Right q operator x ls) here o y (resume out fs) n ws ≡ visit q z (resume out fs here) n ws
+unfolding back_chain
+last_pair out fs here q o operator x y z ls n ws h k =
+    rw h (ap (λ (rest : List Link). visit q (join operator x y) (λ r u. paired (links out here.calls rest) here.names r u (resume out fs here)) n ws) (none_left ls.now k))
 
 pub unwound_more : (out : Outside) (fs fs' : List Frame) (here : Here) (bs : List Before) (last : Before) (rest : List Before) (q : Place) (y : Operand) (z : Option Operand) (n : ℕ) (ws : List ℕ)
     → bs ≡ last ∷ rest → z ≡ join op.Concat last.operand y → fs' ≡ w.Chain (l.Whole rest) ∷ fs
@@ -256,6 +274,12 @@ pub indexed_pushed : (out : Outside) (fs fs' : List Frame) (here : Here) (at : P
     → visit at (access x i j) (λ q z. accessed (subscripts out here.calls ss.now) at here.names q z (resume out fs here)) n ws ≡ visit at z (resume out fs' here) n ws
 unfolding resume back back_access
 indexed_pushed out fs fs' here at x i j z ss n ws h k = rw (h, k) refl
+
+pub last_indexed : (out : Outside) (fs : List Frame) (here : Here) (at : Place) (x i : Operand) (j : Option Operand) (z : Option Operand) (ss : List Subscript) (n : ℕ) (ws : List ℕ)
+    → z ≡ access x i j → length ss ≡ 0
+    → visit at (access x i j) (λ q z. accessed (subscripts out here.calls ss) at here.names q z (resume out fs here)) n ws ≡ visit at z (resume out fs here) n ws
+last_indexed out fs here at x i j z ss n ws h k =
+    rw h (ap (λ (rest : List Subscript). visit at (access x i j) (λ q u. accessed (subscripts out here.calls rest) at here.names q u (resume out fs here)) n ws) (none_left ss k))
 
 pub one_index : (out : Outside) (fs : List Frame) (here : Here) (at o : Place) (x i : Operand) (s : Bor Subscript) (ss : Bor (List Subscript)) (n : ℕ) (ws : List ℕ)
     → (out-Subscript s.now).second ≡ None

@@ -16,6 +16,7 @@ use ms_code::Subscript;
 use ms_placing::PlaceFault;
 use ms_syntax::Place;
 use ms_values::{Operand, Pile};
+use sqlite_items::Boxed;
 use std::alloc::Global;
 
 /// The subscripts that are still to come, of the operand of a node at `place`.
@@ -53,8 +54,13 @@ fn indexed<'a>(
     ensures { (out : OutsideOf) → (here : HereOf) → (ws : List ℕ) → Goes out (visit_of at (r.access x i j) (λ q z. p.accessed (subscripts_of out here.calls subscripts.entry.now) at here.names q z (resume out frames.old here)) left.old ws) result frames.new here left.new ws }
 {
     let z = access(alloc, x, i, j)?;
-    frames.push(Frame::Access(AccessFrame::Array(at, subscripts)))?;
-    visit(at, z, left)
+    match subscripts.split_first() {
+        None => visit(at, z, left),
+        Some(_) => {
+            frames.push(Frame::Access(AccessFrame::Array(at, subscripts)))?;
+            visit(at, z, left)
+        }
+    }
 }
 
 /// The first index of a subscript is placed.
@@ -74,6 +80,7 @@ fn first_index<'a>(
         None => indexed(alloc, frames, at, x, i, None, subscripts, left),
         Some(second) => {
             let second = second.get();
+            let x = Boxed::new(alloc, x)?;
             frames.push(Frame::Access(AccessFrame::Second(at, x, i, subscripts)))?;
             Ok(Task::Enter(second))
         }
@@ -96,7 +103,16 @@ pub fn back_access<'a>(
             first_index(alloc, frames, at, y, x, subscript, subscripts, left)
         }
         AccessFrame::Second(at, y, i, subscripts) => {
-            indexed(alloc, frames, at, y, i, Some(x), subscripts, left)
+            indexed(
+                alloc,
+                frames,
+                at,
+                y.into_inner(),
+                i,
+                Some(x),
+                subscripts,
+                left,
+            )
         }
     }
 }

@@ -67,6 +67,7 @@ fn grouping_by(operator: Operator, others_are_or: bool) -> Grouping
 }
 
 /// The pairs that are still to come.
+#[inline(always)]
 fn paired<'a>(
     frames: &mut Pile<Frame<'a>>,
     links: &'a [Link],
@@ -87,6 +88,7 @@ fn paired<'a>(
 }
 
 /// The right operand of a pair is placed.
+#[inline(always)]
 fn pair<'a>(
     alloc: Global,
     frames: &mut Pile<Frame<'a>>,
@@ -100,11 +102,17 @@ fn pair<'a>(
     ensures { (out : OutsideOf) → (here : HereOf) → (ws : List ℕ) → Goes out (back_chain_of out (l.Right place operator x links.entry) here place y (resume out frames.old) left.old ws) result frames.new here left.new ws }
 {
     let z = join(alloc, operator, x, y)?;
-    frames.push(Frame::Chain(ChainFrame::Pairs(links)))?;
-    visit(place, z, left)
+    match links.split_first() {
+        None => visit(place, z, left),
+        Some(_) => {
+            frames.push(Frame::Chain(ChainFrame::Pairs(links)))?;
+            visit(place, z, left)
+        }
+    }
 }
 
 /// The operands that are still to come of a chain of `/\` or `\/`.
+#[inline(never)]
 fn connected<'a>(
     alloc: Global,
     frames: &mut Pile<Frame<'a>>,
@@ -127,6 +135,7 @@ fn connected<'a>(
 }
 
 /// The first operand of a chain of `/\` or `\/` is placed.
+#[inline(never)]
 fn connect<'a>(
     alloc: Global,
     frames: &mut Pile<Frame<'a>>,
@@ -144,6 +153,7 @@ fn connect<'a>(
 
 /// A further operand of a chain of `/\` or `\/` is placed: its operator is visited, of which no tree is made yet.
 #[tactic(auto, unfolding(crate::specs::Frames::back_chain))]
+#[inline(never)]
 fn junction<'a>(
     alloc: Global,
     frames: &mut Pile<Frame<'a>>,
@@ -167,6 +177,7 @@ fn junction<'a>(
 }
 
 /// The operands to the left of what is placed, the latest first.
+#[inline(never)]
 fn unwound<'a>(
     alloc: Global,
     frames: &mut Pile<Frame<'a>>,
@@ -189,6 +200,7 @@ fn unwound<'a>(
 }
 
 /// The operands that are still to come of a chain of `++`.
+#[inline(never)]
 fn concatenated<'a>(
     alloc: Global,
     frames: &mut Pile<Frame<'a>>,
@@ -216,6 +228,7 @@ fn concatenated<'a>(
 }
 
 /// The first operand of a chain is placed.
+#[inline(always)]
 fn linked<'a>(
     alloc: Global,
     frames: &mut Pile<Frame<'a>>,
@@ -238,6 +251,7 @@ fn linked<'a>(
     }
 }
 
+#[inline(always)]
 pub fn back_chain<'a>(
     alloc: Global,
     frames: &mut Pile<Frame<'a>>,

@@ -15,6 +15,7 @@ use ms_placing::PlaceFault;
 use ms_rules::truth;
 use ms_syntax::Place;
 use ms_values::{Operand, Pile};
+use sqlite_items::Boxed;
 use std::alloc::Global;
 
 /// The conditions that are still to come.
@@ -75,6 +76,7 @@ fn conditioned<'a>(
 
 /// The branch of a variable condition is placed.
 fn branched<'a>(
+    alloc: Global,
     frames: &mut Pile<Frame<'a>>,
     condition: Operand,
     arms: &'a [Arm],
@@ -83,10 +85,12 @@ fn branched<'a>(
 ) -> Result<Task<'a>, PlaceFault>
     ensures { (out : OutsideOf) → (here : HereOf) → (place : PlaceOf) → (n : ℕ) → (ws : List ℕ) → Goes out (back_choice_of out (c.Branch condition arms.entry last.entry) here place x (resume out frames.old) n ws) result frames.new here n ws }
 {
+    let condition = Boxed::new(alloc, condition)?;
     frames.push(Frame::Choice(ChoiceFrame::Other(condition, x)))?;
     choose_arm(frames, arms, last)
 }
 
+#[inline(never)]
 pub fn back_choice<'a>(
     alloc: Global,
     frames: &mut Pile<Frame<'a>>,
@@ -98,9 +102,11 @@ pub fn back_choice<'a>(
 {
     match frame {
         ChoiceFrame::Condition(arm, arms, last) => conditioned(frames, arm, arms, last, x),
-        ChoiceFrame::Branch(condition, arms, last) => branched(frames, condition, arms, last, x),
+        ChoiceFrame::Branch(condition, arms, last) => branched(
+            alloc, frames, condition, arms, last, x,
+        ),
         ChoiceFrame::Other(condition, y) => {
-            Ok(Task::Give(place, choose(alloc, condition, y, x)?))
+            Ok(Task::Give(place, choose(alloc, condition.into_inner(), y, x)?))
         }
     }
 }

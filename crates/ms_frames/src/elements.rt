@@ -14,14 +14,16 @@ ghost use Rattle.ms_frames.specs.declared.frame.Frame.{Frame as FrameOf};
 ghost use Rattle.ms_frames.specs.Frames.{Goes, resume, calls, parts, ended as ended_of, filled_in, rows_in};
 
 use crate::frame::{End, Frame, Task};
+use crate::held::Held;
 use crate::nodes::visit;
 use ms_code::{Code, Reference, Row};
 use ms_operators::ranges_of;
 use ms_placing::PlaceFault;
-use ms_rules::{empty, grow, kind_of_type, line_from_one, numbers_of};
+use ms_rules::{empty, kind_of_type, line_from_one, numbers_of};
 use ms_syntax::Place;
 use ms_typing::ExprType;
 use ms_values::{Array, Cells, IndexRange, Indices, Narrow, Operand, Pile, Shared};
+use sqlite_items::Boxed;
 use std::alloc::{AllocError, Global};
 
 fn set_of(alloc: Global, cells: Cells) -> Result<Operand, AllocError>
@@ -61,6 +63,20 @@ fn grid_from_one(
     }
 }
 
+/// Begins with elements, which are put behind these cells.
+pub fn begin<'a>(
+    alloc: Global,
+    end: End<'a>,
+    cells: Cells,
+    elements: &'a [Code],
+) -> Result<Task<'a>, PlaceFault>
+    ensures { (out : OutsideOf) → (frames : List FrameOf) → (here : HereOf) → (n : ℕ) → (ws : List ℕ) → Goes out (filled_in out end.entry here cells elements.entry.now (resume out frames here) n ws) result frames here n ws }
+{
+    let cells = Held::new(alloc, cells)?;
+    let end = Boxed::new(alloc, end)?;
+    Ok(Task::Fill(end, cells, elements))
+}
+
 /// The rows that are still to come.
 fn next_row<'a>(
     alloc: Global,
@@ -80,7 +96,7 @@ fn next_row<'a>(
         }
         Some((row, rest)) => {
             let end = End::Rows(place, count, width, rest);
-            Ok(Task::Fill(end, cells, row.elements.as_slice()))
+            begin(alloc, end, cells, row.elements.as_slice())
         }
     }
 }
@@ -108,18 +124,19 @@ fn ended<'a>(
 }
 
 /// The elements that are still to come.
+#[inline(never)]
 pub fn fill<'a>(
     alloc: Global,
     frames: &mut Pile<Frame<'a>>,
-    end: End<'a>,
-    cells: Cells,
+    end: Boxed<End<'a>>,
+    cells: Held<Cells>,
     elements: &'a [Code],
     left: &mut u64,
 ) -> Result<Task<'a>, PlaceFault>
     ensures { (out : OutsideOf) → (here : HereOf) → (ws : List ℕ) → Goes out (filled_in out end.entry here cells elements.now (resume out frames.old here) left.old ws) result frames.new here left.new ws }
 {
     match elements.split_first() {
-        None => ended(alloc, end, cells, left),
+        None => ended(alloc, end.into_inner(), cells.into_inner(), left),
         Some((first, rest)) => {
             frames.push(Frame::Element(end, cells, rest))?;
             Ok(Task::Enter(first))
@@ -128,17 +145,18 @@ pub fn fill<'a>(
 }
 
 /// An element is placed.
+#[inline(never)]
 pub fn gain<'a>(
     alloc: Global,
-    end: End<'a>,
-    cells: Cells,
+    end: Boxed<End<'a>>,
+    cells: Held<Cells>,
     x: Operand,
     elements: &'a [Code],
 ) -> Result<Task<'a>, PlaceFault>
     ensures { (out : OutsideOf) → (frames : List FrameOf) → (here : HereOf) → (n : ℕ) → (ws : List ℕ) → Goes out (filled_in out end.entry here (r.grown cells x) elements.entry.now (resume out frames here) n ws) result frames here n ws }
 {
     let mut cells = cells;
-    grow(alloc, &mut cells, x)?;
+    cells.gain(alloc, x)?;
     Ok(Task::Fill(end, cells, elements))
 }
 
@@ -152,6 +170,7 @@ fn width_of(rows: &[Row]) -> usize
 }
 
 /// An array of two dimensions.
+#[inline(never)]
 pub fn begin_rows<'a>(
     alloc: Global,
     place: Place,
@@ -166,6 +185,7 @@ pub fn begin_rows<'a>(
 }
 
 /// The arguments that are still to come.
+#[inline(never)]
 pub fn gather<'a>(
     frames: &mut Pile<Frame<'a>>,
     place: Place,
@@ -185,6 +205,7 @@ pub fn gather<'a>(
 }
 
 /// An argument is placed.
+#[inline(never)]
 pub fn argue<'a>(
     frames: &mut Pile<Frame<'a>>,
     place: Place,

@@ -1,11 +1,13 @@
 //! What waits for an operand: a continuation of the definition of placing, as data.
 
+use crate::held::Held;
 use ms_code::{Arm, Code, Generator, Link, Reference, Row, Subscript};
 use ms_num::Ranges;
 use ms_operators::{Connective, Junction};
 use ms_syntax::{Operator, Place, Sign};
 use ms_typing::ExprType;
 use ms_values::{Cells, Numbers, Operand, Pile, Shared};
+use sqlite_items::Boxed;
 
 /// How many bodies may yet be opened, and the operands of the names, the latest first.
 #[derive(Drop)]
@@ -85,7 +87,7 @@ pub enum AccessFrame<'a> {
     /// Waits for the first index.
     First(Place, Operand, &'a Subscript, &'a [Subscript]),
     /// Waits for the second index.
-    Second(Place, Operand, Operand, &'a [Subscript]),
+    Second(Place, Boxed<Operand>, Operand, &'a [Subscript]),
 }
 
 /// Of an `if`.
@@ -96,21 +98,21 @@ pub enum ChoiceFrame<'a> {
     /// Waits for the branch of a variable condition.
     Branch(Operand, &'a [Arm], &'a Code),
     /// Waits for the other branch.
-    Other(Operand, Operand),
+    Other(Boxed<Operand>, Operand),
 }
 
 /// Of generators.
 #[derive(Drop)]
 pub enum MakingFrame<'a> {
     /// Waits for the set of a generator, with the generators behind it.
-    Set(Making<'a>, &'a Generator, &'a [Generator]),
+    Set(Held<Making<'a>>, &'a Generator, &'a [Generator]),
     /// Waits for what stands after `where`.
-    Test(Making<'a>),
+    Test(Held<Making<'a>>),
     /// Waits for an element.
-    Body(Making<'a>),
+    Body(Held<Making<'a>>),
 }
 
-/// What waits for an operand.
+/// What waits for an operand. Rare and large parts are held elsewhere, since frames are moved at each step.
 #[derive(Drop)]
 pub enum Frame<'a> {
     Convert(ExprType),
@@ -120,7 +122,7 @@ pub enum Frame<'a> {
     Chain(ChainFrame<'a>),
     Access(AccessFrame<'a>),
     Argument(Place, Reference, Pile<Operand>, &'a [Code]),
-    Element(End<'a>, Cells, &'a [Code]),
+    Element(Boxed<End<'a>>, Held<Cells>, &'a [Code]),
     Choice(ChoiceFrame<'a>),
     /// Waits for the value of a local, with the values behind it and the body.
     Bound(&'a [Code], &'a Code),
@@ -140,11 +142,11 @@ pub enum Task<'a> {
     /// Calls a function with the arguments, the last first.
     Call(Place, Reference, Pile<Operand>),
     /// Goes on with the next elements.
-    Fill(End<'a>, Cells, &'a [Code]),
+    Fill(Boxed<End<'a>>, Held<Cells>, &'a [Code]),
     /// Begins with the numbers of a name.
-    Turn(Making<'a>, Turn<'a>),
+    Turn(Held<Making<'a>>, Boxed<Turn<'a>>),
     /// Goes on with an array, once all is made for a number of the latest name that runs.
-    Made(Making<'a>),
+    Made(Held<Making<'a>>),
     /// An operand, with the place of its node.
     Give(Place, Operand),
     Done(Place, Operand),

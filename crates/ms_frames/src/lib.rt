@@ -14,17 +14,19 @@ mod chains;
 mod choices;
 mod elements;
 mod frame;
+mod held;
 mod locals;
 mod makings;
 mod nodes;
 mod resuming;
 
 pub use choices::choose_arm;
-pub use elements::{begin_rows, fill, gather};
+pub use elements::{begin, begin_rows, fill, gather};
 pub use frame::{
     AccessFrame, Before, ChainFrame, ChoiceFrame, End, Frame, Here, Making, MakingFrame, Plan,
     Task, Turn,
 };
+pub use held::Held;
 pub use locals::bind;
 pub use makings::{generate, made, turn};
 pub use nodes::{settle, tick, visit};

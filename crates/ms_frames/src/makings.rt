@@ -11,15 +11,17 @@ ghost use Rattle.ms_rules.specs.Conversions as q;
 ghost use Rattle.ms_frames.specs.Frames.{Goes, resume, run_in, made_of, element_of, nested_in, turns_in, deeper as deeper_of, further as further_of, finished, resumed, generator_in, back_making as back_making_of};
 
 use crate::frame::{Frame, Here, Making, MakingFrame, Plan, Task, Turn};
+use crate::held::Held;
 use crate::locals::leave;
 use crate::nodes::{settle, tick, visit};
 use ms_code::Generator;
 use ms_num::Ranges;
 use ms_placing::PlaceFault;
-use ms_rules::{empty, grow, kind_of, kind_of_type, line_from_one, set_of, truth};
+use ms_rules::{empty, kind_of, kind_of_type, line_from_one, set_of, truth};
 use ms_syntax::Place;
 use ms_typing::ExprType;
 use ms_values::{Cells, Numbers, Operand, Pile, Shared};
+use sqlite_items::Boxed;
 use std::alloc::{AllocError, Global};
 
 fn array_of(alloc: Global, cells: Cells, whole: bool) -> Result<Operand, AllocError>
@@ -33,6 +35,7 @@ fn array_of(alloc: Global, cells: Cells, whole: bool) -> Result<Operand, AllocEr
 }
 
 /// The array is whole.
+#[inline(never)]
 fn finish<'a>(
     alloc: Global,
     plan: Plan<'a>,
@@ -74,11 +77,13 @@ fn further<'a>(
 }
 
 /// An element, where what stands after `where` is true.
-fn test<'a>(frames: &mut Pile<Frame<'a>>, making: Making<'a>) -> Result<Task<'a>, PlaceFault>
+#[inline(always)]
+fn test<'a>(frames: &mut Pile<Frame<'a>>, making: Held<Making<'a>>) -> Result<Task<'a>, PlaceFault>
     ensures { (out : OutsideOf) → (here : HereOf) → (n : ℕ) → (ws : List ℕ) → Goes out (element_of out here.calls making.entry.plan here.names (made_of making.entry) (resumed out making.entry.plan making.entry.turns here (resume out frames.old)) n ws) result frames.new here n ws }
 {
-    let body = making.plan.body;
-    match making.plan.condition {
+    let plan = making.plan();
+    let body = plan.body;
+    match plan.condition {
         None => {
             frames.push(Frame::Made(MakingFrame::Body(making)))?;
             Ok(Task::Enter(body))
@@ -91,9 +96,10 @@ fn test<'a>(frames: &mut Pile<Frame<'a>>, making: Making<'a>) -> Result<Task<'a>
 }
 
 /// The generators that are still to come.
+#[inline(always)]
 fn nested<'a>(
     frames: &mut Pile<Frame<'a>>,
-    making: Making<'a>,
+    making: Held<Making<'a>>,
     generators: &'a [Generator],
 ) -> Result<Task<'a>, PlaceFault>
     ensures { (out : OutsideOf) → (here : HereOf) → (n : ℕ) → (ws : List ℕ) → Goes out (nested_in out here.calls making.entry.plan generators.now here.names (made_of making.entry) (resumed out making.entry.plan making.entry.turns here (resume out frames.old)) n ws) result frames.new here n ws }
@@ -109,9 +115,11 @@ fn nested<'a>(
 }
 
 /// A further name, or else the generators that are still to come.
+#[inline(always)]
 fn deeper<'a>(
+    alloc: Global,
     frames: &mut Pile<Frame<'a>>,
-    making: Making<'a>,
+    making: Held<Making<'a>>,
     turn: Option<Turn<'a>>,
     generators: &'a [Generator],
 ) -> Result<Task<'a>, PlaceFault>
@@ -119,15 +127,17 @@ fn deeper<'a>(
 {
     match turn {
         None => nested(frames, making, generators),
-        Some(turn) => Ok(Task::Turn(making, turn)),
+        Some(turn) => Ok(Task::Turn(making, Boxed::new(alloc, turn)?)),
     }
 }
 
 /// The next number of a name.
+#[inline(always)]
 pub fn turn<'a>(
+    alloc: Global,
     frames: &mut Pile<Frame<'a>>,
     here: &mut Here,
-    making: Making<'a>,
+    making: Held<Making<'a>>,
     turn: Turn<'a>,
     left: &mut u64,
 ) -> Result<Task<'a>, PlaceFault>
@@ -142,36 +152,42 @@ pub fn turn<'a>(
             let inner = turn.inner;
             let next = further(turn.place, turn.names, &turn.set, inner)?;
             here.names.push(Operand::Number(Some(n)))?;
-            making.turns.push(turn)?;
-            deeper(frames, making, next, inner)
+            making.begin(turn)?;
+            deeper(alloc, frames, making, next, inner)
         }
     }
 }
 
 /// All is made for a number of the latest name that runs.
+#[inline(always)]
 pub fn made<'a>(
     alloc: Global,
     frames: &mut Pile<Frame<'a>>,
     here: &mut Here,
-    making: Making<'a>,
+    making: Held<Making<'a>>,
     left: &mut u64,
 ) -> Result<Task<'a>, PlaceFault>
     ensures { (out : OutsideOf) → (ws : List ℕ) → Goes out (resumed out making.entry.plan making.entry.turns here.old (resume out frames.old) (made_of making.entry) left.old ws) result frames.new here.new left.new ws }
 {
     let mut making = making;
-    match making.turns.pop() {
-        None => finish(alloc, making.plan, making.cells, making.whole, left),
+    match making.latest() {
+        None => {
+            let all = making.into_inner();
+            finish(alloc, all.plan, all.cells, all.whole, left)
+        }
         Some(last) => {
             leave(here);
-            turn(frames, here, making, last, left)
+            turn(alloc, frames, here, making, last, left)
         }
     }
 }
 
 /// The set of a generator is placed.
+#[inline(never)]
 fn begin<'a>(
+    alloc: Global,
     frames: &mut Pile<Frame<'a>>,
-    making: Making<'a>,
+    making: Held<Making<'a>>,
     generator: &'a Generator,
     generators: &'a [Generator],
     set: Option<Shared<Ranges>>,
@@ -181,35 +197,37 @@ fn begin<'a>(
     let mut making = making;
     match set {
         None => {
-            making.whole = false;
+            making.spoil();
             Ok(Task::Made(making))
         }
         Some(set) => {
             let next = further(generator.place, generator.names, &set, generators)?;
-            deeper(frames, making, next, generators)
+            deeper(alloc, frames, making, next, generators)
         }
     }
 }
 
 /// An element is placed.
-fn gain<'a>(alloc: Global, making: Making<'a>, x: Operand) -> Result<Task<'a>, PlaceFault>
+#[inline(never)]
+fn gain<'a>(alloc: Global, making: Held<Making<'a>>, x: Operand) -> Result<Task<'a>, PlaceFault>
     ensures { (out : OutsideOf) → (frames : List FrameOf) → (here : HereOf) → (n : ℕ) → (ws : List ℕ) → Goes out (resumed out making.entry.plan making.entry.turns here (resume out frames) (p.gained (made_of making.entry) x) n ws) result frames here n ws }
 {
     let mut making = making;
-    grow(alloc, &mut making.cells, x)?;
+    making.gain(alloc, x)?;
     Ok(Task::Made(making))
 }
 
 /// What stands after `where` is placed.
+#[inline(always)]
 fn tested<'a>(
     frames: &mut Pile<Frame<'a>>,
-    making: Making<'a>,
+    making: Held<Making<'a>>,
     holds: bool,
 ) -> Result<Task<'a>, PlaceFault>
     ensures { (out : OutsideOf) → (here : HereOf) → (n : ℕ) → (ws : List ℕ) → Goes out ((if holds then run_in out here making.entry.plan.body.now (λ q y. resumed out making.entry.plan making.entry.turns here (resume out frames.old) (p.gained (made_of making.entry) y)) else resumed out making.entry.plan making.entry.turns here (resume out frames.old) (made_of making.entry)) n ws) result frames.new here n ws }
 {
     if holds {
-        let body = making.plan.body;
+        let body = making.plan().body;
         frames.push(Frame::Made(MakingFrame::Body(making)))?;
         Ok(Task::Enter(body))
     } else {
@@ -217,6 +235,7 @@ fn tested<'a>(
     }
 }
 
+#[inline(always)]
 pub fn back_making<'a>(
     alloc: Global,
     frames: &mut Pile<Frame<'a>>,
@@ -227,7 +246,7 @@ pub fn back_making<'a>(
 {
     match frame {
         MakingFrame::Set(making, generator, generators) => {
-            begin(frames, making, generator, generators, set_of(x))
+            begin(alloc, frames, making, generator, generators, set_of(x))
         }
         MakingFrame::Test(making) => tested(frames, making, truth(x)),
         MakingFrame::Body(making) => gain(alloc, making, x),
@@ -235,6 +254,7 @@ pub fn back_making<'a>(
 }
 
 /// Generators and what is placed for each of their values.
+#[inline(never)]
 pub fn generate<'a>(
     alloc: Global,
     frames: &mut Pile<Frame<'a>>,
@@ -244,11 +264,14 @@ pub fn generate<'a>(
 ) -> Result<Task<'a>, PlaceFault>
     ensures { (out : OutsideOf) → (here : HereOf) → (n : ℕ) → (ws : List ℕ) → Goes out (nested_in out here.calls plan.entry generators.entry.now here.names (record { cells = r.empty (q.kind_of_type kind); whole = true }) (λ made. finished plan.entry made (resume out frames.old here)) n ws) result frames.new here n ws }
 {
-    let making = Making {
-        plan,
-        cells: empty(alloc, kind_of_type(kind)),
-        whole: true,
-        turns: Pile::new(alloc),
-    };
+    let making = Held::new(
+        alloc,
+        Making {
+            plan,
+            cells: empty(alloc, kind_of_type(kind)),
+            whole: true,
+            turns: Pile::new(alloc),
+        },
+    )?;
     nested(frames, making, generators)
 }

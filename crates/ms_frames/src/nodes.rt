@@ -18,6 +18,7 @@ use ms_values::Operand;
 use std::alloc::Global;
 
 /// Takes an evaluation step.
+#[inline(always)]
 pub fn tick(place: Place, left: &mut u64) -> Result<(), PlaceFault>
     ensures { Ticks place left.old result left.new }
 {
@@ -28,6 +29,7 @@ pub fn tick(place: Place, left: &mut u64) -> Result<(), PlaceFault>
     Ok(())
 }
 
+#[inline(always)]
 pub fn is_shallow(nesting: u64) -> bool
     ensures { result ≡ nat_le nesting TREE_NESTING_LIMIT }
 {
@@ -35,6 +37,7 @@ pub fn is_shallow(nesting: u64) -> bool
 }
 
 /// A tree goes on where it nests no deeper than the limit.
+#[inline(always)]
 fn shallow<'a>(place: Place, nesting: u64, x: Operand) -> Result<Task<'a>, PlaceFault>
     ensures { (out : OutsideOf) → (frames : List FrameOf) → (here : HereOf) → (n : ℕ) → (ws : List ℕ) → Goes out (shallow_of place nesting (resume out frames here place x) n ws) result frames here n ws }
 {
@@ -46,6 +49,7 @@ fn shallow<'a>(place: Place, nesting: u64, x: Operand) -> Result<Task<'a>, Place
 }
 
 /// An operand within the limits goes on.
+#[inline(always)]
 fn limited<'a>(place: Place, x: Operand) -> Result<Task<'a>, PlaceFault>
     ensures { (out : OutsideOf) → (frames : List FrameOf) → (here : HereOf) → (n : ℕ) → (ws : List ℕ) → Goes out (limited_of place x (resume out frames here) n ws) result frames here n ws }
 {
@@ -58,6 +62,7 @@ fn limited<'a>(place: Place, x: Operand) -> Result<Task<'a>, PlaceFault>
 }
 
 /// The operand of a node that takes no step.
+#[inline(always)]
 pub fn settle<'a>(place: Place, x: Option<Operand>) -> Result<Task<'a>, PlaceFault>
     ensures { Settled place x result }
 {
@@ -68,6 +73,7 @@ pub fn settle<'a>(place: Place, x: Option<Operand>) -> Result<Task<'a>, PlaceFau
 }
 
 /// The node is visited: a step, and then its operand, unless it leaves the limits.
+#[inline(always)]
 pub fn visit<'a>(place: Place, x: Option<Operand>, left: &mut u64) -> Result<Task<'a>, PlaceFault>
     ensures { Given place x left.old result left.new }
 {

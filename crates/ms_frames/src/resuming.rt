@@ -18,6 +18,7 @@ use ms_syntax::Place;
 use ms_values::{Operand, Pile};
 use std::alloc::Global;
 
+#[inline(always)]
 pub fn back<'a>(
     alloc: Global,
     frames: &mut Pile<Frame<'a>>,

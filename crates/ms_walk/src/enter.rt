@@ -11,7 +11,7 @@ ghost use Rattle.ms_frames.specs.Frames.{Goes, resume, run_in};
 use ms_base::Bytes;
 use ms_code::{Code, Generators};
 use ms_frames::{
-    AccessFrame, ChainFrame, End, Frame, Plan, Task, begin_rows, bind, choose_arm, gather,
+    AccessFrame, ChainFrame, End, Frame, Plan, Task, begin, begin_rows, bind, choose_arm, gather,
     generate, visit,
 };
 use ms_num::LIMIT;
@@ -48,6 +48,7 @@ fn condition<'a>(generators: &'a Generators) -> Option<&'a Code>
     }
 }
 
+#[inline(always)]
 pub fn enter<'a>(
     alloc: Global,
     frames: &mut Pile<Frame<'a>>,
@@ -97,12 +98,12 @@ pub fn enter<'a>(
         Code::RepeatEach(p, _, _) => visit(*p, Some(Operand::Number(None)), left),
         Code::Array(p, kind, es) => {
             let cells = empty(alloc, kind_of_type(*kind));
-            Ok(Task::Fill(End::Array(*p), cells, es.as_slice()))
+            begin(alloc, End::Array(*p), cells, es.as_slice())
         }
         Code::Rows(p, kind, rows) => begin_rows(alloc, *p, *kind, rows.as_slice(), left),
         Code::Set(p, es) => {
             let cells = Cells::Numbers(Elements::new(alloc));
-            Ok(Task::Fill(End::Set(*p), cells, es.as_slice()))
+            begin(alloc, End::Set(*p), cells, es.as_slice())
         }
         Code::Comprehension(p, kind, generators, a) => {
             let plan = Plan {

@@ -15,6 +15,7 @@ use ms_syntax::Place;
 use ms_values::{Operand, Pile};
 use std::alloc::{AllocError, Global};
 
+#[inline(always)]
 fn local<O: Surroundings>(
     alloc: Global,
     outside: &O,
@@ -30,6 +31,7 @@ fn local<O: Surroundings>(
 }
 
 /// What a name is placed to.
+#[inline(always)]
 fn named<O: Surroundings>(
     alloc: Global,
     outside: &O,
@@ -46,6 +48,7 @@ fn named<O: Surroundings>(
     }
 }
 
+#[inline(always)]
 pub fn look<'a, O: Surroundings>(
     alloc: Global,
     outside: &O,

@@ -93,6 +93,7 @@ fn call_built_in<'a, O: Surroundings, W: Words>(
 }
 
 /// A call whose arguments are placed.
+#[inline(never)]
 pub fn call_name<'a, O: Surroundings, W: Words>(
     alloc: Global,
     outside: &'a O,

@@ -4,7 +4,7 @@ ghost use Rattle.std.specs.Prelude.{ℕ, List};
 ghost use Rattle.ms_placing.specs.Outside.{Outside as OutsideOf};
 ghost use Rattle.ms_placing.specs.Placing.{Places, placed_from};
 ghost use Rattle.ms_walk.specs.Around.{outside_of};
-ghost use Rattle.ms_frames.specs.Frames.{Goes, Answers, goes, resume};
+ghost use Rattle.ms_frames.specs.Frames.{Goes, Answers, goes, resume, run_in};
 
 use crate::enter::enter;
 use crate::names::look;
@@ -20,6 +20,7 @@ use ms_values::{Operand, Pile};
 use std::alloc::Global;
 
 /// An operand goes to the latest frame.
+#[inline(always)]
 fn give<'a>(
     alloc: Global,
     frames: &mut Pile<Frame<'a>>,
@@ -36,6 +37,25 @@ fn give<'a>(
     }
 }
 
+/// Into an expression; a name is looked up at once.
+#[inline(always)]
+fn go_into<'a, O: Surroundings>(
+    alloc: Global,
+    outside: &O,
+    frames: &mut Pile<Frame<'a>>,
+    here: &Here,
+    e: &'a Code,
+    left: &mut u64,
+) -> Result<Task<'a>, PlaceFault>
+    ensures { (w : List ℕ → ℕ) → (f : List ℕ → List ℕ) → (ws : List ℕ) → Goes (outside_of (O.around outside.now) w f) (run_in (outside_of (O.around outside.now) w f) here.now e.now (resume (outside_of (O.around outside.now) w f) frames.old here.now) left.old ws) result frames.new here.now left.new ws }
+{
+    match e {
+        Code::Name(p, name) => look(alloc, outside, here, *p, *name, left),
+        _ => enter(alloc, frames, e, left),
+    }
+}
+
+#[inline(always)]
 fn step<'a, O: Surroundings, W: Words>(
     alloc: Global,
     outside: &'a O,
@@ -48,7 +68,7 @@ fn step<'a, O: Surroundings, W: Words>(
     ensures { Goes (outside_of (O.around outside.now) W.word_of W.after) (goes (outside_of (O.around outside.now) W.word_of W.after) frames.old here.old task.entry left.old (W.state words.old)) result frames.new here.new left.new (W.state words.new) }
 {
     match task {
-        Task::Enter(e) => enter(alloc, frames, e, left),
+        Task::Enter(e) => go_into(alloc, outside, frames, here, e, left),
         Task::Look(p, name) => look(alloc, outside, here, p, name, left),
         Task::Call(p, name, arguments) => {
             call_name(
@@ -56,7 +76,7 @@ fn step<'a, O: Surroundings, W: Words>(
             )
         }
         Task::Fill(end, cells, es) => fill(alloc, frames, end, cells, es, left),
-        Task::Turn(making, next) => turn(frames, here, making, next, left),
+        Task::Turn(making, next) => turn(alloc, frames, here, making, next.into_inner(), left),
         Task::Made(making) => made(alloc, frames, here, making, left),
         Task::Give(p, x) => give(alloc, frames, here, p, x, left),
         Task::Done(p, x) => Ok(Task::Done(p, x)),

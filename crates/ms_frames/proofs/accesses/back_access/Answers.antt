@@ -11,4 +11,4 @@ returns-in-First c out here ws = rw c.in-First.is (c.first_index.ensures out her
 
 pub returns-in-Second : goal.returns-in-Second
 unfolding back_access
-returns-in-Second c out here ws = rw c.in-Second.is (c.indexed.ensures out here ws)
+returns-in-Second c out here ws = rw c.in-Second.is (rw c.into_inner.ensures at (c.indexed.ensures out here ws))

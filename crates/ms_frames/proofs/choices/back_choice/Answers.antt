@@ -12,4 +12,4 @@ returns-in-Branch c out here n ws = rw c.in-Branch.is (c.branched.ensures out he
 
 pub returns-in_ok-choose-in-Other : goal.returns-in_ok-choose-in-Other
 unfolding back_choice
-returns-in_ok-choose-in-Other c out here n ws = rw (c.in-Other.is, c.in_ok-choose-in-Other.ensures) refl
+returns-in_ok-choose-in-Other c out here n ws = rw (c.in-Other.is, c.in_ok-choose-in-Other.ensures, c.into_inner.ensures) refl

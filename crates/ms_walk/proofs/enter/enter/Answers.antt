@@ -37,13 +37,13 @@ pub returns-in-RepeatEach : goal.returns-in-RepeatEach
 returns-in-RepeatEach c out here ws = shows out _ _ _ _ _ _ _ (into_repeat out here _ _ _ _ _ _ _ c.in-RepeatEach.is) (c.visit-in-RepeatEach.ensures out _ here ws)
 
 pub returns-in-Array : goal.returns-in-Array
-returns-in-Array c out here ws = rw (c.empty-cells.ensures, c.kind_of_type.ensures) (into_array out here _ _ _ _ c.as_slice-in-Array.result _ _ _ c.in-Array.is c.as_slice-in-Array.ensures)
+returns-in-Array c out here ws = shows out _ _ _ _ _ _ _ (into_array out here _ _ _ _ c.as_slice-in-Array.result _ _ _ c.in-Array.is c.as_slice-in-Array.ensures) (rw (c.empty-cells.ensures, c.kind_of_type.ensures) at (c.begin.ensures out c.args.frames.now here c.args.left.now ws))
 
 pub returns-in-Rows : goal.returns-in-Rows
 returns-in-Rows c out here ws = shows out _ _ _ _ _ _ _ (into_rows out here _ _ _ _ _ _ _ c.in-Rows.is) (rw c.as_slice-in-Rows.ensures at (c.begin_rows.ensures out c.args.frames.now here ws))
 
 pub returns-in-Set : goal.returns-in-Set
-returns-in-Set c out here ws = rw c.new-in-Set.ensures (into_set out here _ _ _ c.as_slice-in-Set.result _ _ _ c.in-Set.is c.as_slice-in-Set.ensures)
+returns-in-Set c out here ws = shows out _ _ _ _ _ _ _ (into_set out here _ _ _ c.as_slice-in-Set.result _ _ _ c.in-Set.is c.as_slice-in-Set.ensures) (rw c.new-in-Set.ensures at (c.begin-in-Set.ensures out c.args.frames.now here c.args.left.now ws))
 
 pub returns-in-Comprehension : goal.returns-in-Comprehension
 returns-in-Comprehension c out here ws = shows out _ _ _ _ _ _ _ (into_comprehension out here _ _ _ _ _ (record { place = c.in-Comprehension.p; is_node = true; condition = c.condition-in-Comprehension.result; body = c.get-in-Comprehension.result }) _ _ _ c.in-Comprehension.is c.get-in-Comprehension.ensures c.condition-in-Comprehension.ensures refl refl) (rw c.as_slice-in-Comprehension.ensures at (c.generate-in-Comprehension.ensures out here c.args.left.now ws))
